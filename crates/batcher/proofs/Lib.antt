@@ -1,0 +1,5 @@
+pub mod Bounding
+pub mod Finding
+pub mod Holding
+pub mod Keeping
+pub mod Pushing

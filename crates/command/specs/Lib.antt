@@ -1,0 +1,3 @@
+pub mod Family
+pub mod Lawful
+pub mod Refusals

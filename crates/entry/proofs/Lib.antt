@@ -1,0 +1,3 @@
+pub mod Packs
+pub mod Taken
+pub mod Windows

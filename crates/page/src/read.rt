@@ -1,0 +1,52 @@
+ghost use mathlib.Core.Path.{_≡_};
+ghost use Rattle.page.specs.Laws.{Says, Spells};
+ghost use Rattle.page.specs.Sheets.{Reads, readPage, sheetOf};
+ghost use Rattle.std.specs.Results.{Cases};
+ghost use Rattle.std.specs.Vec.{made};
+ghost use Rattle.page.specs.declared.read.ReadError.the-variants.{Memory};
+use crate::page::Page;
+use crate::parser::Parser;
+use std::alloc::AllocError;
+use std::alloc::Global;
+
+/// A text has at most so many bytes.
+const MOST_BYTES: usize = 65_536;
+
+/// Why a text was not read.
+#[derive(Drop)]
+pub enum ReadError {
+    /// The first line that is bad or missing, from 1, or 0 for a text that is too long.
+    Bad(u64),
+    /// There was no memory for the page.
+    Memory,
+}
+
+pub impl From<AllocError> for ReadError as ReadErrorFromAlloc {
+    ghost converts = { λ _ e. e ≡ Memory };
+
+    fn from(_e: AllocError) -> ReadError {
+        ReadError::Memory
+    }
+}
+
+fn parse(heap: Global, text: &[u8]) -> Result<Page, ReadError>
+    ensures { λ r. ⌜ Reads r (readPage (now (text .entry))) ⌝ }
+{
+    if text.len() > MOST_BYTES {
+        return Err(ReadError::Bad(0));
+    }
+    let mut parser = Parser::new(heap, text);
+    while !parser.at_end() {
+        parser.take_line()?;
+    }
+    parser.finish()
+}
+
+/// The page that a text is, or the number of the first line at which no sheet can go on.
+pub fn read(heap: Global, text: &[u8]) -> Result<Page, ReadError>
+    ensures answer { λ r. ⌜ Reads r (readPage (now (text .entry))) ⌝ }
+    ensures spelt { λ r. ⌜ made r (λ p. Spells (now (text .entry)) (sheetOf p)) ⌝ }
+    ensures first { λ r. ⌜ Cases r (λ _. Unit {0}) (λ e. Says e (now (text .entry))) ⌝ }
+{
+    parse(heap, text)
+}

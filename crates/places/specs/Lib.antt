@@ -1,0 +1,4 @@
+pub mod Counts
+pub mod Laid
+pub mod Placed
+pub mod Supplies

@@ -1,0 +1,4 @@
+pub mod Ending
+pub mod Placing
+pub mod Staging
+pub mod Summing

@@ -1,0 +1,4 @@
+pub mod Members
+pub mod Reading
+pub mod Room
+pub mod Turns

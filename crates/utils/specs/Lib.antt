@@ -1,0 +1,3 @@
+pub mod Marks
+pub mod Firsts
+pub mod Unique
