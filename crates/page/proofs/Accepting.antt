@@ -144,7 +144,6 @@ plain-lines text p h (inl e) = ap linesOf e ∙ lines-text (sheetLines p) h
 plain-lines text p h (inr e) = ap linesOf (append-cancel-right (unpadded text) (shorn (Align (p .align)) (tails p)) (10 ∷ []) (e ∙ sym (shorn-ended (Align (p .align)) (tails p)))) ∙ lines-shorn (Align (p .align)) (tails p) h
 
 plain-read : (text : List ℕ) (p : Sheet) → length text ≤ 65536 → Fits p → (unpadded text ≡ written p) ⊎ (unpadded text ++ (10 ∷ []) ≡ written p) → readPage (unpadded text) ≡ good p
-unfolding readLines
 plain-read text p h f e =
     let u : List ℕ = unpadded text in
     cond-false (ltb 65536 (length u)) _ _ (le-ltb 65536 (length u) (omega (arith, bare-shorter false text)))
@@ -153,7 +152,6 @@ plain-read text p h f e =
     ∙ read-sheet p (f .some) (f .most)
 
 pub spells : (text : List ℕ) (p : Sheet) → readPage text ≡ good p → Spells text p
-unfolding readLines
 spells text p e =
     let h = accepts (map lineOf (linesOf text)) Start 1 empty p (refl, refl) (not-long text p e) in
     let k = each-line (linesOf text) (sheetLines p) (h .0) in

@@ -15,7 +15,7 @@ use Rattle.page.specs.declared.stage.Stage.{Stage}
 use Rattle.page.specs.declared.stage.Stage.the-variants.{Start, Aligned, Sources, Draws}
 use Rattle.page.specs.Lines.{lineOf}
 use Rattle.page.specs.Stages.{nextOf}
-use Rattle.page.specs.Sheets.{Sheet, Parsed, good, bad, readOn, readLines, readPage, added, empty}
+use Rattle.page.specs.Sheets.{Sheet, Parsed, good, bad, readOn, readPage, added, empty}
 use Rattle.page.specs.Written.{sheetLines, written, Fits}
 use Rattle.page.specs.Laws.{ReadsBack}
 use Rattle.page.proofs.Returning.{lines-text, map-text}
@@ -58,7 +58,6 @@ read-sheet p g h =
 
 -- what is written of a sheet is read back
 pub read-written : (p : Sheet) → Fits p → length (written p) ≤ 65536 → readPage (written p) ≡ good p
-unfolding readLines
 read-written p f h =
     cond-false (ltb 65536 (length (written p))) _ _ (le-ltb 65536 (length (written p)) h)
     ∙ ap (λ (ls : List (List ℕ)). readOn (map lineOf ls) Start 1 empty) (lines-text (sheetLines p) (f .numbers))

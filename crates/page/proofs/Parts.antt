@@ -8,10 +8,10 @@ use native.Mathlib.Nat.{pow-suc}
 use native.Mathlib.Numerals.{add-one}
 use lib.ListN.{length, take, drop, getD}
 use Rattle.std.proofs.shelf.Lists.{drop-more, drop-all, take-append-drop}
-use Rattle.std.proofs.shelf.Tests.{eq-eqb, ne-eqb, cond-true, cond-false}
+use Rattle.std.proofs.shelf.Tests.{eq-eqb, ne-eqb, cond-true, cond-false, and-from}
 use Rattle.std.proofs.shelf.Ways.{tells}
 use Rattle.std.specs.declared.option.Option.the-variants.{Some, None}
-use Rattle.page.specs.Numbers.{isDigit, digitsOnly, valueAfter, numberOf}
+use Rattle.page.specs.Numbers.{belowBound, isDigit, digitsOnly, numberLength, valueAfter, numberOf}
 use Rattle.page.specs.Texts.{Free, afterWord}
 
 pub digit-range : (c : ℕ) → isDigit c ≡ true → (48 ≤ c) × (c ≤ 57)
@@ -41,17 +41,14 @@ pub value-end : (v : ℕ) (xs : List ℕ) (i : ℕ) → length xs ≤ i → valu
 unfolding valueAfter
 value-end v xs i h = ap (valueAfter v) (drop-all i xs h)
 
-pub not-empty : (bs : List ℕ) → length bs ≡ 0 → None ≡ numberOf bs
-not-empty bs h = grind (arith, tells)
-
-pub not-long : (bs : List ℕ) → 20 < length bs → None ≡ numberOf bs
-not-long bs h = grind (arith, tells)
+pub not-length : (bs : List ℕ) → false ≡ numberLength (length bs) → None ≡ numberOf bs
+not-length bs h = grind (arith, tells)
 
 pub not-digits : (bs : List ℕ) → digitsOnly bs ≡ false → None ≡ numberOf bs
 not-digits bs h = grind (arith, tells)
 
-pub not-big : (bs : List ℕ) → 2 ^ 64 ≤ valueAfter 0 bs → None ≡ numberOf bs
-not-big bs h = grind (arith, tells)
+pub as-number : (bs : List ℕ) (v : ℕ) → true ≡ numberLength (length bs) → digitsOnly bs ≡ true → v ≡ valueAfter 0 bs → belowBound v ≡ numberOf bs
+as-number bs v l d e = ap belowBound e ∙ sym (cond-true (numberLength (length bs) && digitsOnly bs) _ _ (and-from (numberLength (length bs)) (digitsOnly bs) (sym l) d))
 
 pub some-number : (bs : List ℕ) (v : ℕ) → digitsOnly bs ≡ true → v ≡ valueAfter 0 bs → 0 < length bs → length bs ≤ 20 → v < 2 ^ 64 → Some v ≡ numberOf bs
 some-number bs v d e p q s = grind (arith, tells)

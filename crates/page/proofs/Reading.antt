@@ -1,8 +1,7 @@
 -- one line read, and the end of a text
 use Prim.Native.Nat.{ℕ, _+_}
-use mathlib.Core.Path.{_≡_, sym, _∙_, ap}
+use mathlib.Core.Path.{_≡_, refl, sym, _∙_, ap}
 use mathlib.Core.List.{List, [], _∷_, map}
-use mathlib.Core.Bool.{Bool, cond}
 use native.Mathlib.Omega.{arith}
 use lib.ListN.{length}
 use Rattle.std.specs.declared.option.Option.{Option}
@@ -11,8 +10,8 @@ use Rattle.page.specs.declared.line.Line.{Line}
 use Rattle.page.specs.declared.stage.Stage.{Stage}
 use Rattle.page.specs.Texts.{linesOf}
 use Rattle.page.specs.Lines.{lineOf}
-use Rattle.page.specs.Stages.{nextOf, mayEnd}
-use Rattle.page.specs.Sheets.{Sheet, Parsed, good, bad, readOn, added}
+use Rattle.page.specs.Stages.{nextOf}
+use Rattle.page.specs.Sheets.{Sheet, Parsed, bad, endedAt, readOn, added}
 
 module _ (lines : List (List ℕ)) (l : List ℕ) (ls : List (List ℕ)) (e : lines ≡ l ∷ ls) (s : Stage) (n : ℕ) (p : Sheet) where
   cut : (o : Option Line) → o ≡ lineOf l → readOn (map lineOf lines) s n p ≡ readOn (o ∷ map lineOf ls) s n p
@@ -30,7 +29,7 @@ module _ (lines : List (List ℕ)) (l : List ℕ) (ls : List (List ℕ)) (e : li
   unfolding readOn
   read-more x u f g = cut (Some x) f ∙ ap (λ (o : Option Stage). elim o as (λ _. Parsed) [ None ↦ bad n | Some t ↦ readOn (map lineOf ls) t (n + 1) (added p x) ]) (sym g)
 
-pub read-end : (bs : List ℕ) → length bs ≡ 0 → (s : Stage) (n : ℕ) (p : Sheet) (b : Bool) → b ≡ mayEnd s → readOn (map lineOf (linesOf bs)) s n p ≡ cond b (good p) (bad n)
+pub read-end : (bs : List ℕ) → length bs ≡ 0 → (s : Stage) (n : ℕ) (p : Sheet) → readOn (map lineOf (linesOf bs)) s n p ≡ endedAt s n p
 unfolding readOn linesOf
-read-end [] h s n p b e = ap (λ (t : Bool). cond t (good p) (bad n)) (sym e)
-read-end (x ∷ bs) h s n p b e = absurd (omega arith)
+read-end [] h s n p = refl
+read-end (x ∷ bs) h s n p = absurd (omega arith)

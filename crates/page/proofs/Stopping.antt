@@ -261,7 +261,6 @@ under k text t m n w =
 
 -- the first k lines, and lines that lead to an end, are a text that is read
 begins : (text : List ℕ) (k : ℕ) (t : Stage) → length text ≤ 65536 → k ≤ length (linesOf text) → reach (take k (linesOf text)) Start ≡ Some t → (k ≡ length (linesOf text) → mayEnd t ≡ false) → Begins k text
-unfolding readLines
 begins text k t h w r n =
     let ls : List (List ℕ) = linesOf text in
     let ks : List (List ℕ) = take k ls in
@@ -281,7 +280,6 @@ fewer text j k h (t, p, e, s) = (t, p, e, sym (take-take j k (linesOf t) h) ∙ 
 
 -- a text with these lines and the one at which they stop is not read
 not-begun : (text : List ℕ) (n : ℕ) → reach (take n (linesOf text)) Start ≡ None → Begins n text → ⊥
-unfolding readLines
 not-begun text n r (t, p, e, s) =
     let g = good-reach (linesOf t) Start 1 empty p (not-long t p e) in
     let z : reach (linesOf t) Start ≡ None = ap (λ (l : List (List ℕ)). reach l Start) (sym (take-append-drop n (linesOf t))) ∙ reach-append (take n (linesOf t)) (drop n (linesOf t)) Start ∙ ap (λ (l : List (List ℕ)). andThen (reach l Start) (reach (drop n (linesOf t)))) s ∙ ap (λ (o : Option Stage). andThen o (reach (drop n (linesOf t)))) r in
@@ -304,7 +302,6 @@ too-long : (text : List ℕ) (n : ℕ) → 65536 < length text → 0 ≡ n → F
 too-long text n h e = record { long = λ _. h; within = omega arith; before = λ k l. absurd (omega arith); here = λ z. absurd (omega arith) }
 
 pub first-bad : (text : List ℕ) (n : ℕ) → readPage text ≡ bad n → FirstBad text n
-unfolding readLines
 first-bad text n e =
     (cond-both (ltb 65536 (length text)) (bad 0) (readLines (linesOf text)) (λ r. r ≡ bad n → FirstBad text n)
     (λ t f. too-long text n (ltb-true 65536 (length text) t) (cc)) (λ t f. stopped text n (ltb-false 65536 (length text) t) (stops (linesOf text) Start 1 n empty f))) e

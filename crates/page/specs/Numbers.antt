@@ -22,9 +22,12 @@ valueAfter n (c ∷ cs) = valueAfter (n * 10 + (c - 48)) cs
 abbrev pub valueOf : List ℕ → ℕ
 valueOf bs = valueAfter 0 bs
 
-abbrev pub isNumber : List ℕ → Bool
-isNumber bs = leb 1 (length bs) && (leb (length bs) 20 && (digitsOnly bs && ltb (valueOf bs) (2 ^ 64)))
+abbrev pub numberLength : ℕ → Bool
+numberLength n = leb 1 n && leb n 20
+
+abbrev pub belowBound : ℕ → Option ℕ
+belowBound v = cond (ltb v (2 ^ 64)) (Some v) None
 
 -- the number that a text is, if it is one
 abbrev pub numberOf : List ℕ → Option ℕ
-numberOf bs = cond (isNumber bs) (Some (valueOf bs)) None
+numberOf bs = cond (numberLength (length bs) && digitsOnly bs) (belowBound (valueOf bs)) None

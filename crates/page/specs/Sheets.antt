@@ -2,7 +2,7 @@
 use Prim.Native.Nat.{ℕ, _+_}
 use mathlib.Core.Path.{_≡_}
 use mathlib.Core.List.{List, [], _∷_, _++_, map}
-use mathlib.Core.Bool.{cond}
+use mathlib.Core.Bool.{Bool, cond}
 use lib.Dec.{ltb}
 use lib.ListN.{length}
 use Rattle.std.specs.Of.Vec.{vec-items}
@@ -46,18 +46,25 @@ pub data Parsed : Type 0 where
   good : Sheet → Parsed
   bad : ℕ → Parsed
 
+-- what the end of a text makes of a sheet, where line n would come next
+abbrev pub endedAt : Stage → ℕ → Sheet → Parsed
+endedAt s n p = cond (mayEnd s) (good p) (bad n)
+
 -- the lines from line n on, at a stage, after the sheet p
 unfoldable pub readOn : List (Option Line) → Stage → ℕ → Sheet → Parsed
-readOn [] s n p = cond (mayEnd s) (good p) (bad n)
+readOn [] s n p = endedAt s n p
 readOn (None ∷ ls) s n p = bad n
 readOn (Some x ∷ ls) s n p = elim (nextOf s x) [ None ↦ bad n | Some t ↦ readOn ls t (n + 1) (added p x) ]
 
-unfoldable pub readLines : List (List ℕ) → Parsed
+abbrev pub readLines : List (List ℕ) → Parsed
 readLines ls = readOn (map lineOf ls) Start 1 empty
+
+abbrev pub tooLong : List ℕ → Bool
+tooLong text = ltb 65536 (length text)
 
 -- a text of more than 65,536 bytes is bad at line 0
 abbrev pub readPage : List ℕ → Parsed
-readPage text = cond (ltb 65536 (length text)) (bad 0) (readLines (linesOf text))
+readPage text = cond (tooLong text) (bad 0) (readLines (linesOf text))
 
 -- what a reader answers where the text is as parsed
 abbrev pub Reads : Result Page ReadError → Parsed → Type 0

@@ -2,8 +2,8 @@ ghost use Prim.Native.Nat.{_<_, _^_};
 ghost use lib.Dec.{eqb};
 ghost use lib.ListN.{length};
 ghost use mathlib.Core.Path.{_≡_};
-ghost use Rattle.page.specs.Parsers.{Started, Took, remaining};
-ghost use Rattle.page.specs.Sheets.{Reads};
+ghost use Rattle.page.specs.Parsers.{Started, Took};
+ghost use Rattle.page.specs.Sheets.{Reads, endedAt, sheetOf};
 use crate::line::read_line;
 use crate::page::Page;
 use crate::read::ReadError;
@@ -61,8 +61,7 @@ impl<'a> Parser<'a> {
 
     /// The page, where the text may end here.
     pub fn finish(self) -> Result<Page, ReadError>
-        requires { ⌜ length (now (self .rest)) ≡ 0 ⌝ }
-        ensures { λ r. ⌜ Reads r (remaining (self .entry)) ⌝ }
+        ensures { λ r. ⌜ Reads r (endedAt (self .entry .stage) (self .entry .number) (sheetOf (self .entry .page))) ⌝ }
     {
         if self.stage.may_end() {
             Ok(self.page)

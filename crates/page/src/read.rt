@@ -1,6 +1,6 @@
 ghost use mathlib.Core.Path.{_≡_};
 ghost use Rattle.page.specs.Laws.{Says, Spells};
-ghost use Rattle.page.specs.Sheets.{Reads, readPage, sheetOf};
+ghost use Rattle.page.specs.Sheets.{Reads, readPage, sheetOf, tooLong};
 ghost use Rattle.std.specs.Results.{Cases};
 ghost use Rattle.std.specs.Vec.{made};
 ghost use Rattle.page.specs.declared.read.ReadError.the-variants.{Memory};
@@ -29,10 +29,16 @@ pub impl From<AllocError> for ReadError as ReadErrorFromAlloc {
     }
 }
 
+fn is_too_long(text: &[u8]) -> bool
+    ensures { λ r. ⌜ r ≡ tooLong (now (text .entry)) ⌝ }
+{
+    text.len() > MOST_BYTES
+}
+
 fn parse(heap: Global, text: &[u8]) -> Result<Page, ReadError>
     ensures { λ r. ⌜ Reads r (readPage (now (text .entry))) ⌝ }
 {
-    if text.len() > MOST_BYTES {
+    if is_too_long(text) {
         return Err(ReadError::Bad(0));
     }
     let mut parser = Parser::new(heap, text);

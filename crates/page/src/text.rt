@@ -2,7 +2,7 @@ ghost use mathlib.Core.Path.{_≡_};
 ghost use Prim.Native.Nat.{_<_};
 ghost use lib.ListN.{length};
 ghost use mathlib.Core.List.{_∷_, _++_};
-ghost use Rattle.page.specs.Numbers.{isDigit, numberOf};
+ghost use Rattle.page.specs.Numbers.{belowBound, isDigit, numberLength, numberOf};
 ghost use Rattle.page.specs.Lines.{before, numbersOf};
 ghost use Rattle.page.specs.Texts.{Free, afterWord, linesOf};
 ghost use Rattle.std.specs.Options.{Cases as BySome};
@@ -20,11 +20,27 @@ fn is_digit(byte: u8) -> bool
     byte >= b'0' && byte <= b'9'
 }
 
+fn is_number_length(digits: usize) -> bool
+    ensures { λ r. ⌜ r ≡ numberLength digits ⌝ }
+{
+    digits >= 1 && digits <= MOST_DIGITS
+}
+
+fn number_below(value: u128) -> Option<u64>
+    ensures { λ r. ⌜ r ≡ belowBound value ⌝ }
+{
+    if value < NUMBER_BOUND {
+        Some(value as u64)
+    } else {
+        None
+    }
+}
+
 /// The number that a text is, if it is one.
 pub fn number(text: &[u8]) -> Option<u64>
     ensures { λ r. ⌜ r ≡ numberOf (now (text .entry)) ⌝ }
 {
-    if text.len() == 0 || text.len() > MOST_DIGITS {
+    if !is_number_length(text.len()) {
         return None;
     }
     let mut value: u128 = 0;
@@ -34,11 +50,7 @@ pub fn number(text: &[u8]) -> Option<u64>
         }
         value = value * 10 + (*byte - b'0') as u128;
     }
-    if value < NUMBER_BOUND {
-        Some(value as u64)
-    } else {
-        None
-    }
+    number_below(value)
 }
 
 /// What stands before the first `mark` in a text, and what stands after it.
