@@ -6,6 +6,7 @@ ghost use mathlib.Core.Path.{_≡_};
 use places::current::CurrentEntry;
 
 pub mod add;
+pub mod counts;
 mod judge;
 
 /// Accumulates what is needed to validate indirect draws; the records stand in tables that the caller keeps.

@@ -31,20 +31,6 @@ impl DrawBatcher {
         }
     }
 
-    /// How many draws are recorded.
-    pub fn draws(&self) -> usize
-        ensures { λ r. ⌜ r ≡ now (self .entry) .draws ⌝ }
-    {
-        self.draws
-    }
-
-    /// How many batches they form.
-    pub fn batches(&self) -> usize
-        ensures { λ r. ⌜ r ≡ now (self .entry) .batches ⌝ }
-    {
-        self.batches
-    }
-
     // Judged whole, then the supply is asked, and only then anything is written.
     fn enter<S: Supply>(
         &mut self,

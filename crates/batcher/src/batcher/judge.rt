@@ -197,7 +197,7 @@ impl DrawBatcher {
     }
 
     /// What the request would write, or why it is turned down, before any supply is asked.
-    pub fn judge(
+    pub(super) fn judge(
         &self,
         draws: &[IndirectDraw],
         batches: &[DrawIndirectValidationBatch],
