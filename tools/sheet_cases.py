@@ -1,8 +1,8 @@
 #!/usr/bin/env python3
 """Writes the cases of crates/sheet_cases: data/*.txt, args and stdout.
 
-The expected output comes from the plain model below, which was written from docs/FORMATS.md and not from the
-Rattle code, so that a fault of one shows as a difference from the other. Run it from the repository's root.
+The expected output comes from the plain model below, which was written from the rules of docs/FORMATS.md and not
+from the Rattle code, so that a fault of one shows as a difference from the other. Run it from the repository's root.
 """
 import os, re, shutil
 

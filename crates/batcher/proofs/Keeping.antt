@@ -44,7 +44,7 @@ first-ok (p ∷ cs) x c e =
     let t = first-ok cs x c (h .1) in
     ((h .0, t .0), t .1)
 
-then-ok : {X Y : Type 0} (r : Result X Refusal) (x : Result Y Refusal) (c : Y) → andThen r x ≡ Ok c → x ≡ Ok c
+pub then-ok : {X Y : Type 0} (r : Result X Refusal) (x : Result Y Refusal) (c : Y) → andThen r x ≡ Ok c → x ≡ Ok c
 then-ok (Ok y) x c e = e
 then-ok (Err r) x c e = let z : _≡_ {A = ℕ} 0 1 = cc in absurd (omega arith)
 

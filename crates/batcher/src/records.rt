@@ -51,7 +51,7 @@ pub struct DrawRequest {
 }
 
 impl DrawIndirectValidationBatch {
-    /// A record to fill a table with: no call looks at what it holds.
+    /// A record to fill a table with, before anything is recorded in its place.
     pub fn empty() -> DrawIndirectValidationBatch
         ensures { λ r. ⌜ r ≡ noBatch ⌝ }
     {
@@ -75,7 +75,7 @@ impl DrawIndirectValidationBatch {
 }
 
 impl IndirectDraw {
-    /// A record to fill a table with: no call looks at what it holds.
+    /// A record to fill a table with, before anything is recorded in its place.
     pub fn empty() -> IndirectDraw
         ensures { λ r. ⌜ r ≡ noDraw ⌝ }
     {

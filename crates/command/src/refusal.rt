@@ -17,7 +17,7 @@ pub enum Refusal {
     UnlawfulSettings,
     /// 2: a slot above 15, or more than 16 steps.
     NoSuchSlot,
-    /// 3: a range that ends before it starts, a number above 4,294,967,295, an unknown step mode or index size.
+    /// 3: a range that ends before it starts, an end or a stride above 4,294,967,295, an unknown step mode or index size.
     MalformedBinding,
     /// 4: a draw before any steps were set.
     MissingPipeline,

@@ -50,7 +50,7 @@ unfolding planned
 planned-counts block room [] s m = refl
 planned-counts block room (b ∷ bs) s m = ap (λ (ks : List ℕ). b .count ∷ ks) (planned-counts block room bs (nextOf block s b) (nextOf room m b))
 
-planned-length : (block room : ℕ) (bs : List DrawIndirectValidationBatch) (s m : Option CurrentEntry) → length (planned block room bs s m) ≡ length bs
+pub planned-length : (block room : ℕ) (bs : List DrawIndirectValidationBatch) (s m : Option CurrentEntry) → length (planned block room bs s m) ≡ length bs
 planned-length block room bs s m = sym (length-map (planned block room bs s m) countOf) ∙ ap length (planned-counts block room bs s m) ∙ length-map bs countOf
 
 planned-count : (block room : ℕ) (bs : List DrawIndirectValidationBatch) (s m : Option CurrentEntry) (i : ℕ) → getD (planned block room bs s m) i noBatch .count ≡ getD bs i noBatch .count
@@ -125,7 +125,7 @@ module _ (block room : ℕ) where
 spread : (room : ℕ) (spans : List Span) → Laid room spans → All (λ s. s .size ≤ room) spans → Spread room spans
 spread room spans l z = let a = laid-apart room spans l z in record { laid = l; apart = a .0; within = a .1 }
 
-batches-known : (t : Terms) (ks : List BatchKey) (ws : List Wanted) (ds : List IndirectDraw) → Paired (Recorded t ks) ws ds → All (λ d. d .batch < length ks) ds
+pub batches-known : (t : Terms) (ks : List BatchKey) (ws : List Wanted) (ds : List IndirectDraw) → Paired (Recorded t ks) ws ds → All (λ d. d .batch < length ks) ds
 batches-known t ks [] [] p = tt
 batches-known t ks [] (d ∷ ds) p = absurd p
 batches-known t ks (w ∷ ws) [] p = tt

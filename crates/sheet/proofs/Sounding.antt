@@ -17,24 +17,24 @@ use Rattle.places.specs.Supplies.{grants}
 use Rattle.places.specs.declared.current.CurrentEntry.{CurrentEntry}
 use Rattle.sheet.specs.Frames.{Recording, answerOf, fresh, recorded, recordedAll, requestOf}
 
-abbrev Sound : Terms → Recording → Type 0
+abbrev pub Sound : Terms → Recording → Type 0
 Sound t f = (ws : List Wanted) × Holds t ws (f .batching) (f .draws) (f .batches)
 
 either-sound : (t : Terms) (f : Recording) (vs ws : List Wanted) (r : Result CurrentEntry Refusal) → Cases r (λ _. Holds t vs (f .batching) (f .draws) (f .batches)) (λ _. Holds t ws (f .batching) (f .draws) (f .batches)) → Sound t f
 either-sound t f vs ws (Ok p) h = (vs, h)
 either-sound t f vs ws (Err e) h = (ws, h)
 
-sound-step : (t : Terms) (sources : List ℕ) (f : Recording) (d : DrawLine) → Sound t f → Sound t (recorded t sources f d)
+pub sound-step : (t : Terms) (sources : List ℕ) (f : Recording) (d : DrawLine) → Sound t f → Sound t (recorded t sources f d)
 sound-step t sources f d s =
     either-sound t (recorded t sources f d) (s .0 ++ asked (requestOf sources d)) (s .0) (answerOf t sources f d)
     (keeps t (f .batching) (f .draws) (f .batches) (s .0) (s .1) (requestOf sources d) (grants (f .supply .holds) (f .supply .left)))
 
-sound-all : (t : Terms) (sources : List ℕ) (f : Recording) (ds : List DrawLine) → Sound t f → Sound t (recordedAll t sources f ds)
+pub sound-all : (t : Terms) (sources : List ℕ) (f : Recording) (ds : List DrawLine) → Sound t f → Sound t (recordedAll t sources f ds)
 unfolding recordedAll
 sound-all t sources f [] s = s
 sound-all t sources f (d ∷ ds) s = sound-all t sources (recorded t sources f d) ds (sound-step t sources f d s)
 
-sound-fresh : (t : Terms) → Sound t fresh
+pub sound-fresh : (t : Terms) → Sound t fresh
 sound-fresh t = (
   [],
   record {

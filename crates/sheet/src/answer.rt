@@ -2,6 +2,7 @@ ghost use Prim.Native.Nat.{ℕ, _≤_};
 ghost use Rattle.batcher.specs.Judged.{terms};
 ghost use Rattle.page.specs.Sheets.{sheetOf};
 ghost use Rattle.sheet.specs.Frames.{recordedAll};
+ghost use Rattle.sheet.specs.Laws.{Tells};
 ghost use Rattle.sheet.specs.Printed.{answerLines, frameText, plannedText, printed, sheetText, termsOf};
 ghost use Rattle.sheet.specs.View.{recordingOf};
 ghost use Rattle.std.specs.Of.String.{string-bytes};
@@ -93,8 +94,8 @@ fn put_sheet(out: &mut String, page: &Page) -> fmt::Result
     }
 }
 
-/// What is printed of a text: the answers and the plan of the sheet that it is, or why there are none.
-pub fn answer(heap: Global, text: &[u8]) -> Result<String, AllocError>
+// The text that is printed; what it tells stands on `answer`.
+fn answer_text(heap: Global, text: &[u8]) -> Result<String, AllocError>
     ensures { λ r. ⌜ made r (λ s. string-bytes s ≡ printed (now (text .entry))) ⌝ }
 {
     let mut out = String::new(heap);
@@ -107,4 +108,13 @@ pub fn answer(heap: Global, text: &[u8]) -> Result<String, AllocError>
         Ok(()) => Ok(out),
         Err(_) => Err(AllocError),
     }
+}
+
+/// What is printed of a text: the answers and the plan of the sheet that it is, or why there are none.
+pub fn answer(heap: Global, text: &[u8]) -> Result<String, AllocError>
+    ensures text { λ r. ⌜ made r (λ s. string-bytes s ≡ printed (now (text .entry))) ⌝ }
+    ensures tells { λ r. ⌜ made r (λ s. Tells (now (text .entry)) (string-bytes s)) ⌝ }
+{
+    let printed = answer_text(heap, text)?;
+    Ok(printed)
 }
