@@ -15,6 +15,8 @@ use Rattle.std.specs.declared.option.Option.the-variants.{Some, None}
 use Rattle.std.specs.declared.result.Result.{Result}
 use Rattle.std.specs.declared.result.Result.the-variants.{Ok, Err}
 use Rattle.std.specs.shelf.Lists.{All}
+use Rattle.command.proofs.Checking.{first-ok, then-ok}
+use Rattle.command.specs.Checks.{first, andThen}
 use Rattle.command.specs.Family.{familyOf}
 use Rattle.command.specs.declared.family.DrawCommandFamily.{DrawCommandFamily}
 use Rattle.command.specs.declared.refusal.Refusal.{Refusal}
@@ -26,27 +28,11 @@ use Rattle.batcher.specs.declared.records.DrawIndirectValidationBatch.{DrawInd
 use Rattle.batcher.specs.declared.records.DrawRequest.{DrawRequest}
 use Rattle.batcher.specs.declared.records.IndirectDraw.{IndirectDraw}
 use Rattle.batcher.specs.Holds.{Held, Holds, asked, askedOf}
-use Rattle.batcher.specs.Judged.{Terms, Batching, Wanted, wanted, prepared, chosen, counted, opened, keyAt, drawAt, placeFor, first, joined, argumentAnswer, andThen, tableChecks, judgedWanted, bySize, byFamily, granted, outcome, placeOf, drawsAfter, batchesAfter, batchingAfter}
+use Rattle.batcher.specs.Judged.{Terms, Batching, Wanted, wanted, prepared, chosen, counted, opened, keyAt, drawAt, placeFor, joined, argumentAnswer, tableChecks, judgedWanted, bySize, byFamily, granted, outcome, placeOf, drawsAfter, batchesAfter, batchingAfter}
 use Rattle.batcher.specs.Keys.{found, Finds, First}
 use Rattle.batcher.specs.Records.{noBatch}
 use Rattle.batcher.proofs.Finding.{finds}
 use Rattle.batcher.proofs.Holding.{held-joins, held-opens}
-
--- no check applied to what was accepted
-passed : {X : Type 0} (b : Bool) (r : Refusal) (rest : Result X Refusal) (c : X) → cond b (Err r) rest ≡ Ok c → (b ≡ false) × (rest ≡ Ok c)
-passed true r rest c e = let z : _≡_ {A = ℕ} 0 1 = cc in absurd (omega arith)
-passed false r rest c e = (refl, e)
-
-pub first-ok : {X : Type 0} (cs : List (Bool × Refusal)) (x : Result X Refusal) (c : X) → first cs x ≡ Ok c → All (λ p. p .0 ≡ false) cs × (x ≡ Ok c)
-first-ok [] x c e = (tt, e)
-first-ok (p ∷ cs) x c e =
-    let h = passed (p .0) (p .1) (first cs x) c e in
-    let t = first-ok cs x c (h .1) in
-    ((h .0, t .0), t .1)
-
-pub then-ok : {X Y : Type 0} (r : Result X Refusal) (x : Result Y Refusal) (c : Y) → andThen r x ≡ Ok c → x ≡ Ok c
-then-ok (Ok y) x c e = e
-then-ok (Err r) x c e = let z : _≡_ {A = ℕ} 0 1 = cc in absurd (omega arith)
 
 pub granted-ok : (r : Result Chosen Refusal) (can : ℕ → Bool) (c : Chosen) → granted r can ≡ Ok c → r ≡ Ok c
 granted-ok (Err e) can c q = q

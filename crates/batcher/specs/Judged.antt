@@ -8,7 +8,8 @@ use Rattle.std.specs.declared.option.Option.{Option}
 use Rattle.std.specs.declared.option.Option.the-variants.{Some, None}
 use Rattle.std.specs.declared.result.Result.{Result}
 use Rattle.std.specs.declared.result.Result.the-variants.{Ok, Err}
-use Rattle.command.specs.Family.{familyOf, srcStride, dstStride}
+use Rattle.command.specs.Checks.{first, andThen}
+use Rattle.command.specs.Family.{familyOf, isIndexed, srcStride, dstStride}
 use Rattle.command.specs.declared.family.DrawCommandFamily.{DrawCommandFamily}
 use Rattle.command.specs.declared.family.DrawCommandFamily.the-variants.{Draw, DrawIndexed}
 use Rattle.command.specs.declared.refusal.Refusal.{Refusal}
@@ -58,10 +59,6 @@ pub record Wanted : Type 0 where
 abbrev pub wanted : DrawRequest → DrawCommandFamily → ℕ → Wanted
 wanted q f z = record { family = f; source = q .source; size = z; offset = q .offset; limit = q .limit; instances = q .instances }
 
-abbrev pub isIndexed : DrawCommandFamily → Bool
-isIndexed Draw = false
-isIndexed DrawIndexed = true
-
 -- the batch to which a draw belongs, once its place is known
 abbrev pub keyAt : Terms → Wanted → CurrentEntry → BatchKey
 keyAt t w p = record { source = w .source; window = dynamicOffset (t .alignment) (t .largest) (w .size) (w .offset); destination = p .index }
@@ -90,10 +87,6 @@ opened k = record { key = k; count = 1; staging = noBatch .staging; metadata = n
 abbrev pub counted : DrawIndirectValidationBatch → DrawIndirectValidationBatch
 counted b = record { key = b .key; count = b .count + 1; staging = b .staging; metadata = b .metadata }
 
-abbrev pub first : {X : Type 0} → List (Bool × Refusal) → Result X Refusal → Result X Refusal
-first [] x = x
-first (c ∷ cs) x = cond (c .0) (Err (c .1)) (first cs x)
-
 abbrev pub chosen : DrawCommandFamily → Prepared → ℕ → ℕ → DrawIndirectValidationBatch → Bool → Chosen
 chosen f p batch rank b opens = record {
   draw = record { family = f; place = p .place; entry = p .entry; batch = batch; rank = rank };
@@ -113,10 +106,6 @@ abbrev pub argumentAnswer : (DrawCommandFamily → ℕ) → DrawCommandFamily �
 argumentAnswer src f size offset =
     first ((not (eqb (offset % 4) 0), UnalignedIndirectBufferOffset) ∷ (ltb size (offset + src f), IndirectBufferOverrun) ∷ []) (Ok tt)
 
-abbrev pub andThen : {X Y : Type 0} → Result X Refusal → Result Y Refusal → Result Y Refusal
-andThen (Ok x) r = r
-andThen (Err e) r = Err e
-
 abbrev pub tableChecks : Batching → List IndirectDraw → List DrawIndirectValidationBatch → List (Bool × Refusal)
 tableChecks s ds bs =
     (leb (length ds) (s .draws), TableFull)
@@ -126,7 +115,7 @@ tableChecks s ds bs =
 abbrev pub judgedWanted : Terms → Batching → List IndirectDraw → List DrawIndirectValidationBatch → Wanted → Result Chosen Refusal
 judgedWanted t s ds bs w =
     let p = prepared t (s .current) w in
-    andThen (argumentAnswer (t .src) (w .family) (w .size) (w .offset)) (first (tableChecks s ds bs) (joined (w .family) p (s .batches) bs (found (p .key) (take (s .batches) bs) 0)))
+    andThen (argumentAnswer (t .src) (w .family) (w .size) (w .offset)) (λ _. first (tableChecks s ds bs) (joined (w .family) p (s .batches) bs (found (p .key) (take (s .batches) bs) 0)))
 
 abbrev pub bySize : Terms → Batching → List IndirectDraw → List DrawIndirectValidationBatch → DrawRequest → DrawCommandFamily → Option ℕ → Result Chosen Refusal
 bySize t s ds bs q f None = Err NoSuchSource

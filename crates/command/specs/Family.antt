@@ -1,7 +1,7 @@
 -- Kinds of draws, and the bytes that one takes.
 use Prim.Native.Nat.{ℕ}
 use lib.Dec.{eqb}
-use mathlib.Core.Bool.{cond}
+use mathlib.Core.Bool.{Bool, true, false, cond}
 use Rattle.std.specs.declared.option.Option.{Option}
 use Rattle.std.specs.declared.option.Option.the-variants.{Some, None}
 use Rattle.command.specs.declared.family.DrawCommandFamily.{DrawCommandFamily}
@@ -18,3 +18,7 @@ srcStride DrawIndexed = 20
 abbrev pub dstStride : DrawCommandFamily → ℕ
 dstStride Draw = 16
 dstStride DrawIndexed = 20
+
+abbrev pub isIndexed : DrawCommandFamily → Bool
+isIndexed Draw = false
+isIndexed DrawIndexed = true

@@ -1,3 +1,4 @@
+pub mod Checks
 pub mod Family
 pub mod Lawful
 pub mod Refusals

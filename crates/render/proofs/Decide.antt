@@ -35,7 +35,8 @@ use Rattle.render.specs.Carries.{EachCarries, IndicesCarried, Carries}
 use Rattle.render.specs.Draws.{drawLimits, limitsAnswer, instanceWithin, withinAnswer, drawAnswer}
 use Rattle.render.specs.Laws.{Askable, ReadyExactly, FirstLeast, LimitAndSlot, LimitsLaw, LimitsDecide, LimitsAnswered, AcceptedExactly}
 use Rattle.render.specs.Limits.{ownLimit, lowered, limitsFrom, limitsOf, indexLimit, unlimited, nothing}
-use Rattle.render.specs.Ready.{andThen, covered, familyNamed, ready}
+use Rattle.command.specs.Checks.{andThen}
+use Rattle.render.specs.Ready.{covered, familyNamed, ready}
 use Rattle.render.specs.Sizes.{sizeOf, indexBytes}
 use Rattle.render.proofs.Carrying.{limitIn, slotIn}
 use Rattle.render.proofs.Least.{pass, slotWith, decided, Lowest, set-by}

@@ -13,7 +13,8 @@ use Rattle.render.specs.declared.direct.DrawLimits.{DrawLimits}
 use Rattle.render.specs.declared.limits.VertexLimits.{VertexLimits}
 use Rattle.render.specs.Bound.{Bound}
 use Rattle.render.specs.Limits.{limitsOf, indexLimit}
-use Rattle.render.specs.Ready.{andThen, ready}
+use Rattle.command.specs.Checks.{andThen}
+use Rattle.render.specs.Ready.{ready}
 
 -- vertices are limited by the vertex buffers, indices by the index binding
 abbrev pub itemLimit : Bound → DrawCommandFamily → ℕ

@@ -8,6 +8,7 @@ use Rattle.std.specs.declared.option.Option.{Option}
 use Rattle.std.specs.declared.option.Option.the-variants.{Some, None}
 use Rattle.std.specs.declared.result.Result.{Result}
 use Rattle.std.specs.declared.result.Result.the-variants.{Ok, Err}
+use Rattle.command.specs.Checks.{first}
 use Rattle.command.specs.declared.family.DrawCommandFamily.{DrawCommandFamily}
 use Rattle.command.specs.declared.family.DrawCommandFamily.the-variants.{Draw, DrawIndexed}
 use Rattle.command.specs.declared.refusal.Refusal.{Refusal}
@@ -15,16 +16,6 @@ use Rattle.command.specs.declared.refusal.Refusal.the-variants.{MissingPipeline
 use Rattle.render.specs.declared.bindings.VertexSlot.{VertexSlot}
 use Rattle.render.specs.declared.steps.VertexStep.{VertexStep}
 use Rattle.render.specs.Bound.{Bound}
-
--- the first check that strikes says what is refused
-abbrev pub first : {X : Type 0} → List (Bool × Refusal) → X → Result X Refusal
-first [] x = Ok x
-first (c ∷ cs) x = cond (c .0) (Err (c .1)) (first cs x)
-
--- what comes after an answer, unless it is a refusal
-abbrev pub andThen : {X Y : Type 0} → Result X Refusal → (X → Result Y Refusal) → Result Y Refusal
-andThen (Ok x) f = f x
-andThen (Err e) f = Err e
 
 -- the slot of each step that is present has a range
 unfoldable pub covered : List VertexSlot → List (Option VertexStep) → Bool
@@ -50,4 +41,4 @@ abbrev pub familyNamed : ℕ → DrawCommandFamily
 familyNamed kind = cond (eqb kind 0) Draw DrawIndexed
 
 abbrev pub ready : Bound → ℕ → Result DrawCommandFamily Refusal
-ready b kind = first (readyChecks b kind) (familyNamed kind)
+ready b kind = first (readyChecks b kind) (Ok (familyNamed kind))

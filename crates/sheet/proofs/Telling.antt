@@ -14,14 +14,16 @@ use Rattle.std.specs.declared.option.Option.the-variants.{Some, None}
 use Rattle.std.specs.declared.result.Result.{Result}
 use Rattle.std.specs.declared.result.Result.the-variants.{Ok, Err}
 use Rattle.std.specs.shelf.Lists.{All}
-use Rattle.batcher.proofs.Keeping.{first-ok, granted-ok, then-ok}
+use Rattle.batcher.proofs.Keeping.{granted-ok}
 use Rattle.batcher.specs.Holds.{Held, Holds}
-use Rattle.batcher.specs.Judged.{Batching, Terms, Wanted, argumentAnswer, bySize, byFamily, drawsAfter, first, joined, judgedWanted, outcome, placeOf, prepared, tableChecks, wanted}
+use Rattle.batcher.specs.Judged.{Batching, Terms, Wanted, argumentAnswer, bySize, byFamily, drawsAfter, joined, judgedWanted, outcome, placeOf, prepared, tableChecks, wanted}
 use Rattle.batcher.specs.Keys.{found}
 use Rattle.batcher.specs.declared.batcher.judge.Chosen.{Chosen}
 use Rattle.batcher.specs.declared.records.DrawIndirectValidationBatch.{DrawIndirectValidationBatch}
 use Rattle.batcher.specs.declared.records.DrawRequest.{DrawRequest}
 use Rattle.batcher.specs.declared.records.IndirectDraw.{IndirectDraw}
+use Rattle.command.proofs.Checking.{first-ok, then-ok}
+use Rattle.command.specs.Checks.{first}
 use Rattle.command.specs.Family.{familyOf}
 use Rattle.command.specs.Lawful.{lawful}
 use Rattle.command.specs.declared.family.DrawCommandFamily.{DrawCommandFamily}

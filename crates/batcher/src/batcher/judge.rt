@@ -1,13 +1,14 @@
 ghost use Prim.Native.Nat.{ℕ, _+_, _-_, _^_, _<_, _≤_};
-ghost use Rattle.batcher.specs.Judged.{argumentAnswer, chosen, isIndexed, joined, judged, prepared, terms, wanted};
+ghost use Rattle.batcher.specs.Judged.{argumentAnswer, chosen, joined, judged, prepared, terms, wanted};
 ghost use Rattle.batcher.specs.Keys.{found};
 ghost use Rattle.batcher.specs.View.{batching};
-ghost use Rattle.command.specs.Family.{srcStride};
+ghost use Rattle.command.specs.Family.{isIndexed, srcStride};
 ghost use Rattle.entry.specs.Entries.{packed};
 ghost use Rattle.places.specs.Placed.{placed};
 ghost use Rattle.std.specs.Results.{Cases};
 ghost use Rattle.std.specs.declared.result.Result.the-variants.{Err, Ok};
 ghost use lib.ListN.{length, take};
+ghost use mathlib.Core.Bool.{true};
 ghost use mathlib.Core.Path.{_≡_};
 use super::super::records::BatchKey;
 use super::super::records::DrawIndirectValidationBatch;
@@ -73,6 +74,7 @@ fn join(
     requires { ⌜ recorded ≤ length (now batches) ⌝ }
     ensures value { λ r. ⌜ r ≡ joined family (now (prepared .entry)) recorded (now (batches .entry)) (found (now (prepared .entry) .key) (take recorded (now (batches .entry))) 0) ⌝ }
     ensures within { λ r. ⌜ Cases r (λ c. (c .draw .batch < length (now (batches .entry))) × (c .current ≡ now (prepared .entry) .current)) (λ _. Unit {0}) ⌝ }
+    ensures room { λ r. ⌜ Cases r (λ c. c .opens ≡ true → recorded < length (now (batches .entry))) (λ _. Unit {0}) ⌝ }
 {
     match find(&batches[0..recorded], &prepared.key) {
         Some(i) => {
@@ -207,6 +209,7 @@ impl DrawBatcher {
     ) -> Result<Chosen, Refusal>
         ensures value { λ r. ⌜ r ≡ judged (terms (now (settings .entry)) (now (sizes .entry))) (batching (now (self .entry))) (now (draws .entry)) (now (batches .entry)) (now (request .entry)) ⌝ }
         ensures within { λ r. ⌜ Cases r (λ c. (c .draw .batch < length (now (batches .entry))) × (now (self .entry) .draws < length (now (draws .entry))) × (c .current .index ≤ now (self .entry) .draws)) (λ _. Unit {0}) ⌝ }
+        ensures room { λ r. ⌜ Cases r (λ c. c .opens ≡ true → now (self .entry) .batches < length (now (batches .entry))) (λ _. Unit {0}) ⌝ }
     {
         let Some(family) = DrawCommandFamily::from_kind(request.kind) else {
             return Err(Refusal::UnknownKind);
