@@ -2,10 +2,3 @@ pub mod Parts
 pub mod Fields
 pub mod Lining
 pub mod Reading
-pub mod Writing
-pub mod Returning
-pub mod Ordered
-pub mod Spelling
-pub mod Padding
-pub mod Accepting
-pub mod Stopping

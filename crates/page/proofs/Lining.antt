@@ -6,7 +6,6 @@ use native.Mathlib.Omega.{arith}
 use lib.ListN.{length, length-append}
 use lib.Dec.{eqb}
 use Rattle.std.proofs.shelf.Tests.{cond-false}
-use Rattle.std.specs.shelf.Lists.{All}
 use Rattle.page.specs.Texts.{Free, onFirst, linesOf}
 
 pub lines-more : (l rest : List ℕ) → Free 10 l → linesOf (l ++ (10 ∷ rest)) ≡ l ∷ linesOf rest
@@ -29,13 +28,3 @@ lines-cut bs l rest f e = ap linesOf e ∙ lines-more l rest f
 
 pub shorter-cut : (bs l rest : List ℕ) → bs ≡ l ++ (10 ∷ rest) → length rest < length bs
 shorter-cut bs l rest e = omega (arith, ap length e, length-append l (10 ∷ rest))
-
--- lines with a newline after each
-unfoldable pub ended : List (List ℕ) → List ℕ
-ended [] = []
-ended (l ∷ ls) = l ++ (10 ∷ ended ls)
-
-pub lines-ended : (ls : List (List ℕ)) → All (Free 10) ls → linesOf (ended ls) ≡ ls
-unfolding ended linesOf
-lines-ended [] f = refl
-lines-ended (l ∷ ls) f = lines-more l (ended ls) (f .0) ∙ ap (λ (k : List (List ℕ)). l ∷ k) (lines-ended ls (f .1))

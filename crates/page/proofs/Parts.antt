@@ -41,17 +41,11 @@ pub value-end : (v : ℕ) (xs : List ℕ) (i : ℕ) → length xs ≤ i → valu
 unfolding valueAfter
 value-end v xs i h = ap (valueAfter v) (drop-all i xs h)
 
-pub not-length : (bs : List ℕ) → false ≡ numberLength (length bs) → None ≡ numberOf bs
-not-length bs h = grind (arith, tells)
-
 pub not-digits : (bs : List ℕ) → digitsOnly bs ≡ false → None ≡ numberOf bs
 not-digits bs h = grind (arith, tells)
 
 pub as-number : (bs : List ℕ) (v : ℕ) → true ≡ numberLength (length bs) → digitsOnly bs ≡ true → v ≡ valueAfter 0 bs → belowBound v ≡ numberOf bs
 as-number bs v l d e = ap belowBound e ∙ sym (cond-true (numberLength (length bs) && digitsOnly bs) _ _ (and-from (numberLength (length bs)) (digitsOnly bs) (sym l) d))
-
-pub some-number : (bs : List ℕ) (v : ℕ) → digitsOnly bs ≡ true → v ≡ valueAfter 0 bs → 0 < length bs → length bs ≤ 20 → v < 2 ^ 64 → Some v ≡ numberOf bs
-some-number bs v d e p q s = grind (arith, tells)
 
 pub free-push : (b : ℕ) (xs : List ℕ) (c : ℕ) → Free b xs → (c ≡ b → ⊥) → Free b (xs ++ (c ∷ []))
 free-push b [] c f n = (ne-eqb c b n, tt)

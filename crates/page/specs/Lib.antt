@@ -4,5 +4,3 @@ pub mod Lines
 pub mod Stages
 pub mod Sheets
 pub mod Parsers
-pub mod Written
-pub mod Laws

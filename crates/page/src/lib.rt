@@ -1,4 +1,4 @@
-// Sheets: reading one and writing one.
+// Sheets, and reading one.
 //
 // A sheet is a text of at most 65,536 bytes. A newline ends each of its lines, and the last line may do without.
 // The lines come in this order:
@@ -17,4 +17,3 @@ mod parser;
 pub mod read;
 mod stage;
 mod text;
-pub mod write;

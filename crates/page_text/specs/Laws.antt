@@ -7,13 +7,13 @@ use mathlib.Core.Logic.{_⊎_}
 use lib.Dec.{eqb}
 use lib.ListN.{length, take}
 use Rattle.std.specs.declared.option.Option.the-variants.{Some}
 use Rattle.page.specs.declared.read.ReadError.{ReadError}
 use Rattle.page.specs.declared.read.ReadError.the-variants.{Bad, Memory}
 use Rattle.page.specs.Numbers.{isDigit}
 use Rattle.page.specs.Texts.{linesOf}
 use Rattle.page.specs.Lines.{lineOf}
 use Rattle.page.specs.Sheets.{Sheet, good, readPage}
-use Rattle.page.specs.Written.{Fits, sheetLines, written}
+use Rattle.page_text.specs.Written.{Fits, sheetLines, written}
 
 -- a text of at most 65,536 bytes is read as the sheet, where the format can say that sheet
 abbrev pub ReadsBack : List ℕ → Sheet → Type 0

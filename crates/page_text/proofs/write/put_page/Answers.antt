@@ -1,6 +1,6 @@
 use Rattle.std.specs.Of.String.{string-bytes}
-use Rattle.page.proofs.Writing.{page-joined}
-use Rattle.page.proofs.write.put_page.Needs as need
+use Rattle.page_text.proofs.Writing.{page-joined}
+use Rattle.page_text.proofs.write.put_page.Needs as need
 
 pub returns : need.returns
 returns c =

@@ -12,21 +12,21 @@ use Rattle.std.specs.declared.option.Option.{Option}
 use Rattle.std.specs.declared.option.Option.the-variants.{Some, None}
 use Rattle.std.proofs.shelf.Lists.{map-push, length-push, append-cancel-right}
 use Rattle.std.proofs.shelf.Tests.{cond-false, cond-both, ltb-true, ltb-false, le-ltb}
 use Rattle.page.specs.declared.line.DrawLine.{DrawLine}
 use Rattle.page.specs.declared.line.Line.{Line}
 use Rattle.page.specs.declared.line.Line.the-variants.{Align, Binding, Source, Draw}
 use Rattle.page.specs.declared.stage.Stage.{Stage}
 use Rattle.page.specs.declared.stage.Stage.the-variants.{Start, Aligned, Sources, Draws}
 use Rattle.page.specs.Texts.{linesOf, onFirst}
 use Rattle.page.specs.Lines.{lineOf}
 use Rattle.page.specs.Stages.{nextOf, mayEnd}
 use Rattle.page.specs.Sheets.{Sheet, Parsed, good, bad, readOn, readLines, readPage, added, empty}
-use Rattle.page.specs.Written.{lineText, linesText, sheetLines, written, LineFits, Fits}
-use Rattle.page.specs.Laws.{Spells, unpadded}
-use Rattle.page.proofs.Spelling.{total, spelt, spelt-fits, spelt-size}
-use Rattle.page.proofs.Ordered.{read-sheet, read-written}
-use Rattle.page.proofs.Padding.{unpadded-text, bare-shorter}
-use Rattle.page.proofs.Returning.{lines-text, map-text, shorn, shorn-ended, lines-shorn}
+use Rattle.page_text.specs.Written.{lineText, linesText, sheetLines, written, LineFits, Fits}
+use Rattle.page_text.specs.Laws.{Spells, unpadded}
+use Rattle.page_text.proofs.Spelling.{total, spelt, spelt-fits, spelt-size}
+use Rattle.page_text.proofs.Ordered.{read-sheet, read-written}
+use Rattle.page_text.proofs.Padding.{unpadded-text, bare-shorter}
+use Rattle.page_text.proofs.Returning.{lines-text, map-text, shorn, shorn-ended, lines-shorn}
 
 -- the lines that were read before a stage
 abbrev soFar : Stage → Sheet → List Line

@@ -8,17 +8,17 @@ use lib.Dec.{ltb}
 use Rattle.std.specs.declared.option.Option.{Option}
 use Rattle.std.specs.declared.option.Option.the-variants.{Some, None}
 use Rattle.std.proofs.shelf.Tests.{cond-true, cond-false, lt-ltb, le-ltb}
 use Rattle.page.specs.declared.line.DrawLine.{DrawLine}
 use Rattle.page.specs.declared.line.Line.{Line}
 use Rattle.page.specs.declared.line.Line.the-variants.{Align, Binding, Source, Draw}
 use Rattle.page.specs.declared.stage.Stage.{Stage}
 use Rattle.page.specs.declared.stage.Stage.the-variants.{Start, Aligned, Sources, Draws}
 use Rattle.page.specs.Lines.{lineOf}
 use Rattle.page.specs.Stages.{nextOf}
 use Rattle.page.specs.Sheets.{Sheet, Parsed, good, bad, readOn, readPage, added, empty}
-use Rattle.page.specs.Written.{sheetLines, written, Fits}
-use Rattle.page.specs.Laws.{ReadsBack}
-use Rattle.page.proofs.Returning.{lines-text, map-text}
+use Rattle.page_text.specs.Written.{sheetLines, written, Fits}
+use Rattle.page_text.specs.Laws.{ReadsBack}
+use Rattle.page_text.proofs.Returning.{lines-text, map-text}
 
 abbrev sheet : ℕ → ℕ → List ℕ → List DrawLine → Sheet
 sheet a b ns ds = record { align = a; binding = b; sources = ns; draws = ds }
