@@ -1,0 +1,3 @@
+pub mod Frames
+pub mod Records
+pub mod Subranges
