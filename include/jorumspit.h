@@ -36,7 +36,7 @@ enum {
     /* refusals */
     JORUMSPIT_UNLAWFUL_SETTINGS = 1,      /* alignment and largest binding do not fit one another */
     JORUMSPIT_NO_SUCH_SLOT = 2,           /* more than 16 slots or steps */
-    JORUMSPIT_MALFORMED_BINDING = 3,      /* a range that ends before it starts, a number of 2^32 or more, an unknown step mode or index size */
+    JORUMSPIT_MALFORMED_BINDING = 3,      /* a range that ends before it starts, an end or a stride of 2^32 or more, an unknown step mode or index size */
     JORUMSPIT_MISSING_PIPELINE = 4,       /* a draw without a pipeline */
     JORUMSPIT_MISSING_VERTEX_BUFFER = 5,  /* a step reads a slot that is empty */
     JORUMSPIT_MISSING_INDEX_BUFFER = 6,   /* an indexed draw without an index range */
