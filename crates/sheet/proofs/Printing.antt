@@ -1,8 +1,6 @@
 -- One more line of each sort.
 use Prim.Native.Nat.{ℕ, _+_, _<_, _≤_}
-use lib.Dec.{eqb}
 use lib.ListN.{length, drop, getD}
-use mathlib.Core.Bool.{Bool, true, false, cond}
 use mathlib.Core.List.{List, [], _∷_, _++_, append-assoc, append-nil}
 use mathlib.Core.Path.{_≡_, refl, sym, _∙_, ap}
 use Rattle.std.proofs.shelf.Lists.{drop-more, drop-all}
@@ -12,20 +10,14 @@ use Rattle.batcher.specs.declared.records.IndirectDraw.{IndirectDraw}
 use Rattle.batcher.specs.Judged.{Terms}
 use Rattle.page.specs.declared.line.DrawLine.{DrawLine}
 use Rattle.sheet.specs.Frames.{Recording, answerOf, recorded, recordedAll}
-use Rattle.sheet.specs.Printed.{answerLine, answerLines, batchLine, batchLines, entryLine, entryLines}
+use Rattle.sheet.specs.Printed.{answerLine, answerLines, batchLine, batchLines, entryLineOf, entryLines}
 
 module _ (pre : List ℕ) (k : ℕ) (ds : List IndirectDraw) (i : ℕ) where
-  entries-cut : i < length ds → pre ++ entryLines k (drop i ds) ≡ pre ++ (cond (eqb (getD ds i noDraw .batch) k) (entryLine (getD ds i noDraw .entry)) [] ++ entryLines k (drop (i + 1) ds))
+  pub entries-more : i < length ds → pre ++ entryLines k (drop i ds) ≡ (pre ++ entryLineOf k (getD ds i noDraw)) ++ entryLines k (drop (i + 1) ds)
   unfolding entryLines
-  entries-cut h = ap (λ (l : List IndirectDraw). pre ++ entryLines k l) (drop-more ds i noDraw h)
-
-  pub entries-here : i < length ds → eqb (getD ds i noDraw .batch) k ≡ true → pre ++ entryLines k (drop i ds) ≡ (pre ++ entryLine (getD ds i noDraw .entry)) ++ entryLines k (drop (i + 1) ds)
-  entries-here h e =
-      entries-cut h ∙ ap (λ (b : Bool). pre ++ (cond b (entryLine (getD ds i noDraw .entry)) [] ++ entryLines k (drop (i + 1) ds))) e
-      ∙ sym (append-assoc pre (entryLine (getD ds i noDraw .entry)) (entryLines k (drop (i + 1) ds)))
-
-  pub entries-past : i < length ds → eqb (getD ds i noDraw .batch) k ≡ false → pre ++ entryLines k (drop i ds) ≡ pre ++ entryLines k (drop (i + 1) ds)
-  entries-past h e = entries-cut h ∙ ap (λ (b : Bool). pre ++ (cond b (entryLine (getD ds i noDraw .entry)) [] ++ entryLines k (drop (i + 1) ds))) e
+  entries-more h =
+      ap (λ (l : List IndirectDraw). pre ++ entryLines k l) (drop-more ds i noDraw h)
+      ∙ sym (append-assoc pre (entryLineOf k (getD ds i noDraw)) (entryLines k (drop (i + 1) ds)))
 
   pub entries-all : length ds ≤ i → pre ++ entryLines k (drop i ds) ≡ pre
   unfolding entryLines

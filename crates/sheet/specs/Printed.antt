@@ -60,10 +60,14 @@ abbrev pub entryLine : MetadataEntry → List ℕ
 entryLine e =
     codes "entry=" ++ (decimal (e .«src_offset») ++ (comma ++ (decimal (e .«dst_offset») ++ (comma ++ (decimal (e .«vertex_or_index_limit») ++ (comma ++ (decimal (e .«instance_limit») ++ newline)))))))
 
+-- the entry of a draw of batch k
+abbrev pub entryLineOf : ℕ → IndirectDraw → List ℕ
+entryLineOf k d = cond (eqb (d .batch) k) (entryLine (d .entry)) []
+
 -- the entries of batch k, in the order of their draws
 unfoldable pub entryLines : ℕ → List IndirectDraw → List ℕ
 entryLines k [] = []
-entryLines k (d ∷ ds) = cond (eqb (d .batch) k) (entryLine (d .entry)) [] ++ entryLines k ds
+entryLines k (d ∷ ds) = entryLineOf k d ++ entryLines k ds
 
 -- each batch with its entries, the first numbered k
 unfoldable pub batchLines : ℕ → List IndirectDraw → List DrawIndirectValidationBatch → List ℕ

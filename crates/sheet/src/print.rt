@@ -1,5 +1,5 @@
 ghost use Prim.Native.Nat.{ℕ, _+_};
-ghost use Rattle.sheet.specs.Printed.{answerLine, badLine, batchLine, batchLines, entryLine, entryLines, keyText, placesText, refusedLine};
+ghost use Rattle.sheet.specs.Printed.{answerLine, badLine, batchLine, batchLines, entryLine, entryLineOf, entryLines, keyText, placesText, refusedLine};
 ghost use Rattle.std.specs.Of.String.{string-bytes};
 ghost use Rattle.std.specs.Vec.{made};
 ghost use mathlib.Core.List.{_++_};
@@ -77,14 +77,22 @@ fn put_entry(out: &mut String, entry: &MetadataEntry) -> fmt::Result
     )
 }
 
+// The entry of a draw, where the draw belongs to the batch of that number.
+fn put_entry_of(out: &mut String, number: usize, draw: &IndirectDraw) -> fmt::Result
+    ensures { λ r. ⌜ made r (λ _. string-bytes (now (out .exit)) ≡ string-bytes (now (out .entry)) ++ entryLineOf number (now (draw .entry))) ⌝ }
+{
+    if draw.batch != number {
+        return Ok(());
+    }
+    put_entry(out, &draw.entry)
+}
+
 // The entries of one batch, in the order of their draws.
 fn put_entries(out: &mut String, number: usize, draws: &[IndirectDraw]) -> fmt::Result
     ensures { λ r. ⌜ made r (λ _. string-bytes (now (out .exit)) ≡ string-bytes (now (out .entry)) ++ entryLines number (now (draws .entry))) ⌝ }
 {
     for draw in draws {
-        if draw.batch == number {
-            put_entry(out, &draw.entry)?;
-        }
+        put_entry_of(out, number, draw)?;
     }
     Ok(())
 }
