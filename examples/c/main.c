@@ -97,7 +97,7 @@ static void print_frame(void) {
     if (jorumspit_frame(&settings, sources, 1, requests, 4, answers, 4, draws, 4, batches, 4, &counts) != 0)
         return;
     for (int i = 0; i < 4; i++)
-        printf("request %d: status %" PRIu64 ", place %" PRIu64 ",%" PRIu64 "\n", i, answers[i].status,
+        printf("answer %d: status %" PRIu64 ", place %" PRIu64 ",%" PRIu64 "\n", i, answers[i].status,
                answers[i].index, answers[i].offset);
     for (uint64_t i = 0; i < counts.draws; i++)
         printf("draw %" PRIu64 ": batch %" PRIu64 ", rank %" PRIu64 ", entry %" PRIu32 ",%" PRIu32 ",%" PRIu32
