@@ -1,6 +1,8 @@
 /* jorumspit.h: limits, windows, entries, places and frames of validated indirect draws, for a host in C or Rust.
  *
- * Every function is proved to do what this page says on every input that keeps the rules of the next paragraph.
+ * What each function returns and writes is stated by its contract in crates/exports/src and crates/frame_exports/src,
+ * and proved, on every input that keeps the rules of the next paragraph. What this page says of memory, pointers and
+ * threads is not proved. jorumspit_frame and jorumspit_sheet hold two tables on the caller's stack, about 80 KiB.
  *
  * Rules for the caller
  *   No pointer is null, also where a length is 0. A pointer is aligned for its type, and its length is that of the
@@ -9,13 +11,14 @@
  *   none has state of its own, so that calls from several threads need no lock.
  *
  * Answers
- *   Each function returns a status: 0 where the call was accepted, 1 to 18 for a refusal, or a number from 64 on.
+ *   Each function returns a status: 0 where the call was accepted, 1 to 15 for a refusal (16 to 18 are kept for later), or a
+ *   number from 64 on.
  *   Unless its comment says otherwise, a function that returns another status than 0 has written nothing.
  *   Numbers may be any: a number that means nothing is refused, never trusted.
  *
  * Linking
- *   rt staticlib exports, rt staticlib frame_exports; then
- *   cc main.c target/staticlib/libexports.a target/staticlib/libframe_exports.a KIT/lib/librattle_c.a
+ *   rt staticlib exports && rt staticlib frame_exports
+ *   cc -Iinclude examples/c/main.c target/staticlib/libexports.a target/staticlib/libframe_exports.a KIT/lib/librattle_c.a
  *   where KIT is the folder of the Rattle kit. examples/c/run does all of it.
  *
  * From Rust, declare the same functions in an `unsafe extern "C"` block: a pointer with a length is
@@ -67,7 +70,8 @@ typedef struct {
 
 /* The window over a source of `size` bytes that serves the arguments at byte `offset`.
  * `alignment` is 32, 64, 128 or 256, and `largest_binding` from 2 * alignment + 20 up to 2^32 - 1, both in bytes;
- * status 1 otherwise.
+ * status 1 otherwise. The arguments have to lie inside the source, offset + 16 (or + 20) at most `size`: this is not
+ * judged here, and the window of others does not hold them.
  *   jorumspit_window(32, 84, 200, 180, &w) == 0, and w is { 72, 128, 52 } */
 uint32_t jorumspit_window(uint64_t alignment, uint64_t largest_binding, uint64_t size, uint64_t offset,
                           jorumspit_window_t *window);
