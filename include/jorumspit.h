@@ -2,7 +2,7 @@
  *
  * What each function returns and writes is stated by its contract in crates/exports/src and crates/frame_exports/src,
  * and proved, on every input that keeps the rules of the next paragraph. What this page says of memory, pointers and
- * threads is not proved. jorumspit_frame and jorumspit_sheet hold two tables on the caller's stack, about 80 KiB.
+ * threads is not proved. jorumspit_frame and jorumspit_sheet hold two tables on the caller's stack.
  *
  * Rules for the caller
  *   No pointer is null, also where a length is 0. A pointer is aligned for its type, and its length is that of the

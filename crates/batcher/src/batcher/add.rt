@@ -64,8 +64,8 @@ impl DrawBatcher {
 
     /// Adds an indirect draw to be validated, and answers where its checked arguments will stand: the index of the
     /// destination buffer and the byte offset in it. A refused request leaves the batcher, the supply and both
-    /// tables as they were, whatever the tables hold. Over tables that only this batcher has written, the records
-    /// are those of the accepted draws, in their order.
+    /// tables as they were, whatever the tables hold. Over tables that only this batcher has written, with the same
+    /// settings and sizes in every call, the records are those of the accepted draws, in their order.
     pub fn add<S: Supply>(
         &mut self,
         supply: &mut S,
