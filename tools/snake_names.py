@@ -116,8 +116,8 @@ def turn_rt(text, names):
             line = line if "Rattle.std." in line else turned(line, names)
             if "{" in line and "}" not in line:
                 deep = 1
-        elif deep == 0 and re.match(r"\s*(requires|ensures)\b|\s*ghost \w+\s*:", line):
-            m = re.match(r"\s*(?:requires|ensures)\*?\s*\w*\s*|\s*ghost \w+\s*:", line)
+        elif deep == 0 and re.match(r"\s*(requires|ensures)\b|\s*ghost \w+\s*[:=]", line):
+            m = re.match(r"\s*(?:requires|ensures)\*?\s*\w*\s*|\s*ghost \w+\s*[:=]", line)
             head, rest = line[: m.end()], line[m.end() :]
             line = head + turned(rest, names)
             deep = rest.count("{") - rest.count("}")

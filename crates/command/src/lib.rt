@@ -1,4 +1,6 @@
 // What every call of the product speaks in: kinds of draws, refusals and answers, and the device's settings.
+#![tactic(auto)]
+
 pub mod answer;
 pub mod family;
 pub mod refusal;

@@ -1,4 +1,6 @@
 // Follows one order to draw from its sixteen bytes to what is drawn, and says in plain words what takes place.
+#![tactic(auto)]
+
 mod scene;
 mod story;
 

@@ -141,7 +141,7 @@ pub fn tell_verdict(rt: &HostRuntime, followed: &Followed, order: &[u32; 4]) -> 
         "The first copy is {first_copy}. It must be 0, unless the card can begin at others."
     )?;
     println!(rt; "The check writes {drawn:?}.")?;
-    if drawn == order {
+    if drawn == order.as_slice() {
         println!(rt;
             "These are the numbers of the order. It keeps to its limits, and is drawn as it stands."
         )

@@ -11,6 +11,8 @@
 // A number has 1 to 20 decimal digits and is below 2^64. Nothing else stands in a line: no space, sign or carriage
 // return. A text that is no sheet is bad at its first line that is none of these or out of order, or, where it ends
 // too soon, at the line that is missing. Lines count from 1; a longer text is bad at line 0.
+#![tactic(auto)]
+
 pub mod line;
 pub mod page;
 mod parser;

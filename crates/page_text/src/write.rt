@@ -6,10 +6,10 @@ ghost use Rattle.page.specs.declared.line.Line.TheVariants.{Source, Draw};
 
 use page::line::{DrawLine, Line};
 use page::page::Page;
-use std::alloc::Global;
+use std::alloc::{AllocError, Global};
 use std::fmt;
 
-fn put_draw(out: &mut String, draw: DrawLine) -> fmt::Result
+fn put_draw(out: &mut String, draw: DrawLine) -> Result<(), AllocError>
     ensures { OnOk result (string_bytes out.new ≡ string_bytes out.old ++ (line_text (Draw draw) ++ (10 ∷ []))) }
 {
     let DrawLine {
@@ -25,7 +25,7 @@ fn put_draw(out: &mut String, draw: DrawLine) -> fmt::Result
     )
 }
 
-fn put_line(out: &mut String, line: Line) -> fmt::Result
+fn put_line(out: &mut String, line: Line) -> Result<(), AllocError>
     ensures { OnOk result (string_bytes out.new ≡ string_bytes out.old ++ (line_text line ++ (10 ∷ []))) }
 {
     match line {
@@ -36,7 +36,7 @@ fn put_line(out: &mut String, line: Line) -> fmt::Result
     }
 }
 
-fn put_sources(out: &mut String, sources: &[u64]) -> fmt::Result
+fn put_sources(out: &mut String, sources: &[u64]) -> Result<(), AllocError>
     ensures { OnOk result (string_bytes out.new ≡ string_bytes out.old ++ lines_text (map Source sources.now)) }
 {
     for size in sources {
@@ -45,7 +45,7 @@ fn put_sources(out: &mut String, sources: &[u64]) -> fmt::Result
     Ok(())
 }
 
-fn put_draws(out: &mut String, draws: &[DrawLine]) -> fmt::Result
+fn put_draws(out: &mut String, draws: &[DrawLine]) -> Result<(), AllocError>
     ensures { OnOk result (string_bytes out.new ≡ string_bytes out.old ++ lines_text (map Draw draws.now)) }
 {
     for draw in draws {
@@ -54,7 +54,7 @@ fn put_draws(out: &mut String, draws: &[DrawLine]) -> fmt::Result
     Ok(())
 }
 
-fn put_page(out: &mut String, page: &Page) -> fmt::Result
+fn put_page(out: &mut String, page: &Page) -> Result<(), AllocError>
     ensures { OnOk result (string_bytes out.new ≡ string_bytes out.old ++ written (sheet_of page.now)) }
 {
     put_line(out, Line::Align(page.align))?;

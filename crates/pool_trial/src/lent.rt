@@ -23,7 +23,7 @@ impl<D: Maker> Supply for Lent<'_, D> {
 
     ghost held = { held_of };
 
-    ghost more = { moreOf };
+    ghost more = { more_of };
 
     ghost ensured = { lending };
 

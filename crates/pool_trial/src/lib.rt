@@ -1,4 +1,6 @@
 // A pool of buffers over a device with one call, lent as a supply of places.
+#![tactic(auto)]
+
 pub mod grow;
 pub mod kinds;
 pub mod lent;

@@ -14,7 +14,6 @@ use page::line::DrawLine;
 use page::page::Page;
 use page::read::{ReadError, read};
 use std::alloc::{AllocError, Global};
-use std::fmt;
 
 // Records the draws of a sheet, and prints each answer.
 fn put_draws(
@@ -24,7 +23,7 @@ fn put_draws(
     batches: &mut [DrawIndirectValidationBatch],
     sources: &[u64],
     lines: &[DrawLine],
-) -> fmt::Result
+) -> Result<(), AllocError>
     ensures text { OnOk result (string_bytes out.new ≡ string_bytes out.old ++ answer_lines (terms frame.old.settings frame.old.sizes) sources.now (recording_of frame.old draws.old batches.old) lines.now) }
     ensures after { OnOk result (recording_of frame.new draws.new batches.new ≡ recorded_all (terms frame.old.settings frame.old.sizes) sources.now (recording_of frame.old draws.old batches.old) lines.now) }
     ensures sizes { OnOk result (frame.new.sizes ≡ frame.old.sizes) }
@@ -42,7 +41,7 @@ fn put_plan(
     frame: &Frame,
     draws: &[IndirectDraw],
     batches: &mut [DrawIndirectValidationBatch],
-) -> fmt::Result
+) -> Result<(), AllocError>
     requires draws { frame.now.batcher.draws ≤ length draws.now }
     requires batches { frame.now.batcher.batches ≤ length batches.old }
     ensures { OnOk result (string_bytes out.new ≡ string_bytes out.old ++ planned_text frame.now.sizes.block frame.now.sizes.buffer (recording_of frame.now draws.now batches.old)) }
@@ -63,7 +62,7 @@ fn put_frame(
     settings: Settings,
     sources: &[u64],
     lines: &[DrawLine],
-) -> fmt::Result
+) -> Result<(), AllocError>
     ensures { OnOk result (string_bytes out.new ≡ string_bytes out.old ++ frame_text (terms_of settings.alignment settings.largest_binding) 67108864 sources.now lines.now) }
 {
     let mut draws = [IndirectDraw::empty(); 1024];
@@ -74,7 +73,7 @@ fn put_frame(
     Ok(())
 }
 
-fn put_sheet(out: &mut String, page: &Page) -> fmt::Result
+fn put_sheet(out: &mut String, page: &Page) -> Result<(), AllocError>
     ensures { OnOk result (string_bytes out.new ≡ string_bytes out.old ++ sheet_text (sheet_of page.now)) }
 {
     match Settings::new(page.align, page.binding) {
@@ -91,12 +90,10 @@ fn answer_text(heap: Global, text: &[u8]) -> Result<String, AllocError>
     let written = match read(heap, text) {
         Ok(page) => put_sheet(&mut out, &page),
         Err(ReadError::Bad(number)) => put_bad(&mut out, number),
-        Err(ReadError::Memory) => Err(fmt::Error),
+        Err(ReadError::Memory) => Err(AllocError),
     };
-    match written {
-        Ok(()) => Ok(out),
-        Err(_) => Err(AllocError),
-    }
+    written?;
+    Ok(out)
 }
 
 /// What is printed of a text: the answers and the plan of the sheet that it is, or why there are none.

@@ -1,4 +1,6 @@
 // Answers a sheet: where its draws go, which are refused, and how the frame is planned.
+#![tactic(auto)]
+
 pub mod answer;
 pub mod frame;
 pub mod print;

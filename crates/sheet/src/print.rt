@@ -5,22 +5,25 @@ use batcher::records::{DrawIndirectValidationBatch, IndirectDraw};
 use command::refusal::Refusal;
 use entry::metadata::MetadataEntry;
 use places::current::CurrentEntry;
-use std::fmt;
+use std::alloc::AllocError;
 
-pub(crate) fn put_bad(out: &mut String, number: u64) -> fmt::Result
+pub(crate) fn put_bad(out: &mut String, number: u64) -> Result<(), AllocError>
     ensures { OnOk result (string_bytes out.new ≡ string_bytes out.old ++ bad_line number) }
 {
     write!(out, "bad={number}\n")
 }
 
-pub(crate) fn put_refused(out: &mut String, refusal: &Refusal) -> fmt::Result
+pub(crate) fn put_refused(out: &mut String, refusal: &Refusal) -> Result<(), AllocError>
     ensures { OnOk result (string_bytes out.new ≡ string_bytes out.old ++ refused_line refusal.now) }
 {
     let number = refusal.number();
     write!(out, "refused={number}\n")
 }
 
-pub(crate) fn put_answer(out: &mut String, answer: &Result<CurrentEntry, Refusal>) -> fmt::Result
+pub(crate) fn put_answer(
+    out: &mut String,
+    answer: &Result<CurrentEntry, Refusal>,
+) -> Result<(), AllocError>
     ensures { OnOk result (string_bytes out.new ≡ string_bytes out.old ++ answer_line answer.now) }
 {
     match answer {
@@ -33,7 +36,7 @@ pub(crate) fn put_answer(out: &mut String, answer: &Result<CurrentEntry, Refusal
     }
 }
 
-fn put_key(out: &mut String, batch: &DrawIndirectValidationBatch) -> fmt::Result
+fn put_key(out: &mut String, batch: &DrawIndirectValidationBatch) -> Result<(), AllocError>
     ensures { OnOk result (string_bytes out.new ≡ string_bytes out.old ++ key_text batch.now) }
 {
     let source = batch.key.source;
@@ -43,7 +46,7 @@ fn put_key(out: &mut String, batch: &DrawIndirectValidationBatch) -> fmt::Result
     write!(out, "batch={source},{window},{destination},{count}")
 }
 
-fn put_places(out: &mut String, batch: &DrawIndirectValidationBatch) -> fmt::Result
+fn put_places(out: &mut String, batch: &DrawIndirectValidationBatch) -> Result<(), AllocError>
     ensures { OnOk result (string_bytes out.new ≡ string_bytes out.old ++ places_text batch.now) }
 {
     let block = batch.staging.index;
@@ -53,14 +56,14 @@ fn put_places(out: &mut String, batch: &DrawIndirectValidationBatch) -> fmt::Res
     write!(out, ",{block},{block_offset},{buffer},{buffer_offset}\n")
 }
 
-fn put_batch(out: &mut String, batch: &DrawIndirectValidationBatch) -> fmt::Result
+fn put_batch(out: &mut String, batch: &DrawIndirectValidationBatch) -> Result<(), AllocError>
     ensures { OnOk result (string_bytes out.new ≡ string_bytes out.old ++ batch_line batch.now) }
 {
     put_key(out, batch)?;
     put_places(out, batch)
 }
 
-fn put_entry(out: &mut String, entry: &MetadataEntry) -> fmt::Result
+fn put_entry(out: &mut String, entry: &MetadataEntry) -> Result<(), AllocError>
     ensures { OnOk result (string_bytes out.new ≡ string_bytes out.old ++ entry_line entry.now) }
 {
     let src_offset = entry.src_offset;
@@ -74,7 +77,7 @@ fn put_entry(out: &mut String, entry: &MetadataEntry) -> fmt::Result
 }
 
 // The entry of a draw, where the draw belongs to the batch of that number.
-fn put_entry_of(out: &mut String, number: usize, draw: &IndirectDraw) -> fmt::Result
+fn put_entry_of(out: &mut String, number: usize, draw: &IndirectDraw) -> Result<(), AllocError>
     ensures { OnOk result (string_bytes out.new ≡ string_bytes out.old ++ entry_line_of number draw.now) }
 {
     if draw.batch != number {
@@ -84,7 +87,7 @@ fn put_entry_of(out: &mut String, number: usize, draw: &IndirectDraw) -> fmt::Re
 }
 
 // The entries of one batch, in the order of their draws.
-fn put_entries(out: &mut String, number: usize, draws: &[IndirectDraw]) -> fmt::Result
+fn put_entries(out: &mut String, number: usize, draws: &[IndirectDraw]) -> Result<(), AllocError>
     ensures { OnOk result (string_bytes out.new ≡ string_bytes out.old ++ entry_lines number draws.now) }
 {
     for draw in draws {
@@ -97,7 +100,7 @@ pub(crate) fn put_batches(
     out: &mut String,
     draws: &[IndirectDraw],
     batches: &[DrawIndirectValidationBatch],
-) -> fmt::Result
+) -> Result<(), AllocError>
     ensures { OnOk result (string_bytes out.new ≡ string_bytes out.old ++ batch_lines 0 draws.now batches.now) }
 {
     for (number, batch) in batches.iter().enumerate() {

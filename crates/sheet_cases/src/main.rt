@@ -1,5 +1,7 @@
 // Answers each sheet that is named on the command line, so that many cases stand in one run. The files under data/
 // and the expected output are written by tools/sheet_cases.py, from a model of its own.
+#![tactic(auto)]
+
 use sheet::answer::answer;
 use std::io::Read;
 use std::{env, fs};

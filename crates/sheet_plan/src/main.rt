@@ -1,4 +1,6 @@
 // Plans a frame from a sheet on standard input: docs/FORMATS.md says what a sheet is and what is printed of it.
+#![tactic(auto)]
+
 use sheet::answer::answer;
 use std::io::{Read, Write};
 

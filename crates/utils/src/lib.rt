@@ -1,4 +1,6 @@
 // Indices named once each: a guard over mark bytes, and the distinct indices of a list.
+#![tactic(auto)]
+
 ghost use Rattle.std.specs.Prelude.{◌≡◌, ℕ, ◌+◌, ◌<◌, ◌≤◌, true, length, take, if◌then◌else◌, Some, None, ◌==◌, slice_index, slice_set};
 ghost use Rattle.utils.specs.Firsts.{firsts, FirstNamed};
 ghost use Rattle.utils.specs.Marks.{wiped, insertion};

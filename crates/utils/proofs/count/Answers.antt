@@ -9,13 +9,13 @@ use Rattle.utils.specs.Marks.{insertion}
 pub loop-index-init : goal.loop-index-init
 loop-index-init c = (refl, read_none _ _ c.new-seen.ensures.clear, refl, omega arith)
 
-pub returns-in-default : goal.returns-in-default
-returns-in-default c =
+pub returns-in_default : goal.returns-in_default
+returns-in_default c =
     let ms : List ℕ = c.loop-index.seen.marks.now in
     let x : ℕ = get_or c.args.indices.now c.loop-index.index-index 0 in
     let many : length c.insert.new.self.marks.now ≡ length c.args.marks.now =
     ap length c.insert.ensures.after ∙ (length-set ms x 1 ∙ read_many _ _ _ _ c.new-seen.ensures.clear c.loop-index.invariant.1) in
-    let past : None ≡ insertion ms x = sym c.in-default.is ∙ c.insert.ensures.answer in
+    let past : None ≡ insertion ms x = sym c.in_default.is ∙ c.insert.ensures.answer in
     record {
       marks = (search rules) ∙ ap (λ (n : ℕ). replicate n 0) many;
       answer = read_past _ _ _ _ _ _ c.new-seen.ensures.clear c.loop-index-test.true c.loop-index.invariant.1 past;

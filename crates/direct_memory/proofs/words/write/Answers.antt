@@ -8,5 +8,5 @@ returns c =
     let ws = c.args.words.now in
     let vs = c.args.values.now in
     let a = c.args.at in
-    put_mid_sets a (a + length vs - a) (length vs) ws c.copy-from-slice.new.self (omega arith) (ap length (sym c.copy-from-slice.ensures.after)) c.requires
-    ∙ ap (sets ws a) c.copy-from-slice.ensures.after
+    put_mid_sets a (a + length vs - a) (length vs) ws c.copy_from_slice.new.self (omega arith) (ap length (sym c.copy_from_slice.ensures.after)) c.requires
+    ∙ ap (sets ws a) c.copy_from_slice.ensures.after

@@ -14,15 +14,15 @@ loop-i-preserved c =
     let i = c.loop-i.i in
     let f = recording_of c.loop-i.frame c.loop-i.draws c.loop-i.batches in
     let g = recording_of c.record-answer.new.self c.record-answer.new.draws c.record-answer.new.batches in
-    let line = c.line-of-line.result in
+    let line = c.line_of-line.result in
     let inside : c.loop-i.i < length c.args.requests.now = omega arith in
     let room : c.loop-i.i < length c.loop-i.answers = omega arith in
     let same : terms c.loop-i.frame.settings c.loop-i.frame.sizes ≡ t = λ k. terms (c.loop-i.invariant.3 k) (c.loop-i.invariant.4 k) in
     let answer : c.record-answer.result ≡ answer_of t ss f line = c.record-answer.ensures.answer ∙ ap (λ (u : Terms). answer_of u ss f line) same in
     let after : g ≡ recorded t ss f line = c.record-answer.ensures.after ∙ ap (λ (u : Terms). recorded u ss f line) same in (
-      answers_more t ss qs i f line g inside c.line-of-line.ensures after c.loop-i.answers c.record-answer.result c.place-of.result room answer c.place-of.ensures ∙ c.loop-i.invariant.0,
-      fill_kept c.loop-i.answers c.args.answers.now (length qs) i c.place-of.result inside c.loop-i.invariant.1,
-      recorded_more t ss qs i f line g inside c.line-of-line.ensures after ∙ c.loop-i.invariant.2,
+      answers_more t ss qs i f line g inside c.line_of-line.ensures after c.loop-i.answers c.record-answer.result c.place_of.result room answer c.place_of.ensures ∙ c.loop-i.invariant.0,
+      fill_kept c.loop-i.answers c.args.answers.now (length qs) i c.place_of.result inside c.loop-i.invariant.1,
+      recorded_more t ss qs i f line g inside c.line_of-line.ensures after ∙ c.loop-i.invariant.2,
       c.record-answer.ensures.settings ∙ c.loop-i.invariant.3,
       c.record-answer.ensures.sizes ∙ c.loop-i.invariant.4,
     )

@@ -10,8 +10,8 @@ loop-i-preserved c =
     let out = c.loop-i.records in
     let inside : c.loop-i.i < length c.args.batches.now = omega arith in
     let room : c.loop-i.i < length c.loop-i.records = omega arith in (
-      mapped_more batch_told out c.args.batches.now no_batch i c.batch-of.result inside room c.batch-of.ensures c.loop-i.invariant.0,
-      fill_kept out c.args.records.now (length c.args.batches.now) i c.batch-of.result inside c.loop-i.invariant.1,
+      mapped_more batch_told out c.args.batches.now no_batch i c.batch_of.result inside room c.batch_of.ensures c.loop-i.invariant.0,
+      fill_kept out c.args.records.now (length c.args.batches.now) i c.batch_of.result inside c.loop-i.invariant.1,
     )
 
 pub returns : goal.returns

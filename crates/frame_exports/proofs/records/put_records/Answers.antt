@@ -10,8 +10,8 @@ loop-i-preserved c =
     let out = c.loop-i.records in
     let inside : c.loop-i.i < length c.args.draws.now = omega arith in
     let room : c.loop-i.i < length c.loop-i.records = omega arith in (
-      mapped_more record_told out c.args.draws.now no_draw i c.record-of.result inside room c.record-of.ensures c.loop-i.invariant.0,
-      fill_kept out c.args.records.now (length c.args.draws.now) i c.record-of.result inside c.loop-i.invariant.1,
+      mapped_more record_told out c.args.draws.now no_draw i c.record_of.result inside room c.record_of.ensures c.loop-i.invariant.0,
+      fill_kept out c.args.records.now (length c.args.draws.now) i c.record_of.result inside c.loop-i.invariant.1,
     )
 
 pub returns : goal.returns

@@ -8,5 +8,5 @@ pub returns : goal.returns
 returns c =
     let end : length c.loop-parser.parser.rest.now ≡ 0 = eqb-true (length c.loop-parser.parser.rest.now) 0 (sym c.loop-parser-test.ensures) in
     let same = sym (read_end c.loop-parser.parser.rest.now end c.loop-parser.parser.stage c.loop-parser.parser.number (sheet_of c.loop-parser.parser.page))
-    ∙ c.loop-parser.invariant.0 ∙ sym (cond-false (too_long c.args.text.now) _ _ (sym c.if-is-too-long.ensures)) in
+    ∙ c.loop-parser.invariant.0 ∙ sym (cond-false (too_long c.args.text.now) _ _ (sym c.if-is_too_long.ensures)) in
     record { answer = subst (Reads c.finish.result) same c.finish.ensures }

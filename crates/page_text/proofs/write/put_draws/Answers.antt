@@ -6,7 +6,7 @@ use Rattle.page_text.proofs.write.put_draws.Goals as goal
 
 pub loop-draw-preserved : goal.loop-draw-preserved
 loop-draw-preserved c =
-    ap (λ (b : List ℕ). b ++ lines_text (map Draw (drop (c.loop-draw.draw-index + 1) c.args.draws.now))) c.in-ok-put-line.ensures
+    ap (λ (b : List ℕ). b ++ lines_text (map Draw (drop (c.loop-draw.draw-index + 1) c.args.draws.now))) c.in_ok-put_line.ensures
     ∙ texts_more Draw (string_bytes c.loop-draw.out) c.args.draws.now c.loop-draw.draw-index _ c.loop-draw-test.true ∙ c.loop-draw.invariant
 
 pub returns : goal.returns

@@ -5,5 +5,5 @@ use Rattle.page_text.proofs.write.put_page.Goals as goal
 pub returns : goal.returns
 returns c =
     page_joined c.args.page.now.align c.args.page.now.binding c.deref.result.now _ c.deref-2.result.now _
-    (string_bytes c.args.out.now) (string_bytes c.put-line.new.out) (string_bytes c.put-line-2.new.out) (string_bytes c.put-sources.new.out) (string_bytes c.put-draws.new.out)
-    c.in-ok-put-line.ensures c.in-ok-put-line-2.ensures c.in-ok-put-sources.ensures c.in-ok-put-draws.ensures c.deref.ensures.value c.deref-2.ensures.value
+    (string_bytes c.args.out.now) (string_bytes c.put_line.new.out) (string_bytes c.put_line-2.new.out) (string_bytes c.put_sources.new.out) (string_bytes c.put_draws.new.out)
+    c.in_ok-put_line.ensures c.in_ok-put_line-2.ensures c.in_ok-put_sources.ensures c.in_ok-put_draws.ensures c.deref.ensures.value c.deref-2.ensures.value

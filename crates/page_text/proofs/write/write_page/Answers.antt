@@ -6,5 +6,5 @@ use Rattle.page_text.proofs.write.write_page.Goals as goal
 
 pub returns : goal.returns
 returns c =
-    let e : string_bytes c.put-page.new.out ≡ written (sheet_of c.args.page.now) = c.in-ok-put-page.ensures ∙ ap (λ (l : List ℕ). l ++ written (sheet_of c.args.page.now)) c.new-out.ensures.bytes in
-    record { text = e; back = read_back (string_bytes c.put-page.new.out) (sheet_of c.args.page.now) e }
+    let e : string_bytes c.put_page.new.out ≡ written (sheet_of c.args.page.now) = c.in_ok-put_page.ensures ∙ ap (λ (l : List ℕ). l ++ written (sheet_of c.args.page.now)) c.new-out.ensures.bytes in
+    record { text = e; back = read_back (string_bytes c.put_page.new.out) (sheet_of c.args.page.now) e }

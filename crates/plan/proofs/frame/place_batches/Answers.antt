@@ -7,8 +7,8 @@ use Rattle.plan.specs.Planned.{bytes_of, ending, next_of, place_of, planned, put
 use Rattle.plan.proofs.Placing.{all_planned, all_supplied, ending_up, next_bound, turn_ending, turn_kept, turn_planned, turn_supplied}
 use Rattle.plan.proofs.frame.place_batches.Goals as goal
 
-pub place-batch-requires : goal.place-batch-requires
-place-batch-requires g c =
+pub place_batch-requires : goal.place_batch-requires
+place_batch-requires g c =
     let i = c.loop-i.i in
     let now = c.loop-i.batches in
     let h : c.loop-i.i < length c.loop-i.batches = omega arith in
@@ -35,19 +35,19 @@ loop-i-preserved g c =
     let room = c.args.sizes.now.buffer in
     let s = c.loop-i.staging in
     let m = c.loop-i.metadata in
-    let p = c.place-batch.ensures in
+    let p = c.place_batch.ensures in
     let v = g.S.Supply.view c.loop-i.supply in
     let t = turn_ending i e now h keep room m in (
-      ap (λ (r : DrawIndirectValidationBatch). take (i + 1) (set now i r) ++ planned block room (drop (i + 1) e) c.place-batch.new.staging c.place-batch.new.metadata) p.value
-          ∙ ap (λ (x : Option CurrentEntry). take (i + 1) (set now i (put b (place_of block s b) (place_of room m b))) ++ planned block room (drop (i + 1) e) x c.place-batch.new.metadata) p.staging
+      ap (λ (r : DrawIndirectValidationBatch). take (i + 1) (set now i r) ++ planned block room (drop (i + 1) e) c.place_batch.new.staging c.place_batch.new.metadata) p.value
+          ∙ ap (λ (x : Option CurrentEntry). take (i + 1) (set now i (put b (place_of block s b) (place_of room m b))) ++ planned block room (drop (i + 1) e) x c.place_batch.new.metadata) p.staging
           ∙ ap (λ (x : Option CurrentEntry). take (i + 1) (set now i (put b (place_of block s b) (place_of room m b))) ++ planned block room (drop (i + 1) e) (next_of block s b) x) p.metadata
           ∙ turn_planned i e now h keep block room s m ∙ c.loop-i.invariant.0,
-      turn_kept i e now h keep c.place-batch.result,
+      turn_kept i e now h keep c.place_batch.result,
       subst (λ (x : Option CurrentEntry). following x ≤ i + 1) (sym p.staging) (next_bound block s b i c.loop-i.invariant.2),
       subst (λ (x : Option CurrentEntry). following x ≤ i + 1) (sym p.metadata) (next_bound room m b i c.loop-i.invariant.3),
       p.held,
       omega (arith, p.whole, c.loop-i.invariant.5, ap following t, ap (λ (x : Option CurrentEntry). following (ending room (drop (i + 1) e) x)) p.metadata),
-      ap (λ (x : Option CurrentEntry). supplied g.S.Supply.ensured room (drop (i + 1) e) x (g.S.Supply.view c.place-batch.new.supply)) p.metadata
+      ap (λ (x : Option CurrentEntry). supplied g.S.Supply.ensured room (drop (i + 1) e) x (g.S.Supply.view c.place_batch.new.supply)) p.metadata
           ∙ ap (λ (x : g.S.Supply.View). supplied g.S.Supply.ensured room (drop (i + 1) e) (next_of room m b) x) p.supply
           ∙ sym (turn_supplied i e now h keep g.S.Supply.ensured room m v) ∙ c.loop-i.invariant.6,
       p.kept ∙ c.loop-i.invariant.7,

@@ -11,16 +11,16 @@ use Rattle.plan.proofs.frame.plan.Goals as goal
 
 pub returns : goal.returns
 returns g c =
-    let e = c.plan-recorded.ensures in
+    let e = c.plan_recorded.ensures in
     let z = c.args.sizes.now in
     let b = c.args.batcher.now in
     let n = c.args.batcher.now.batches in
     let bs = c.args.batches.now in
     let v = g.S.Supply.view c.args.supply.now in
     let cap = g.S.Supply.held v + g.S.Supply.more v in
-    let r = c.plan-recorded.result in
+    let r = c.plan_recorded.result in
     let answer : r ≡ plan_answer z.block z.buffer n bs cap = e.answer ∙ ap (λ (k : ℕ). plan_answer z.block z.buffer k bs cap) c.batches.ensures in
-    let after : c.plan-recorded.new.batches ≡ batches_after z.block z.buffer n r bs = e.batches ∙ ap (λ (k : ℕ). batches_after z.block z.buffer k r bs) c.batches.ensures in
+    let after : c.plan_recorded.new.batches ≡ batches_after z.block z.buffer n r bs = e.batches ∙ ap (λ (k : ℕ). batches_after z.block z.buffer k r bs) c.batches.ensures in
     record {
       answer = answer;
       batches = after;

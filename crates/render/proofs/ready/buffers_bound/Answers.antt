@@ -2,15 +2,15 @@ use Rattle.std.proofs.Common.{◌<◌, length, sym, ◌∙◌, arith}
 use Rattle.render.proofs.Folds.{covered_end, covered_none, covered_missing, covered_some}
 use Rattle.render.proofs.ready.buffers_bound.Goals as goal
 
-pub loop-i-preserved-in-default : goal.loop-i-preserved-in-default
-loop-i-preserved-in-default c =
+pub loop-i-preserved-in_default : goal.loop-i-preserved-in_default
+loop-i-preserved-in_default c =
     let lt : c.loop-i.i < length c.args.slots.now = omega arith in
-    sym (covered_none c.args.slots.now c.args.steps.now c.loop-i.i lt c.loop-i-test.true c.in-default.is) ∙ c.loop-i.invariant
+    sym (covered_none c.args.slots.now c.args.steps.now c.loop-i.i lt c.loop-i-test.true c.in_default.is) ∙ c.loop-i.invariant
 
-pub returns-in-default-range : goal.returns-in-default-range
-returns-in-default-range c =
+pub returns-in_default-range : goal.returns-in_default-range
+returns-in_default-range c =
     let lt : c.loop-i.i < length c.args.slots.now = omega arith in
-    let e = covered_missing c.args.slots.now c.args.steps.now c.loop-i.i lt c.loop-i-test.true c.in-Some.field-0 c.in-Some.is c.in-default-range.is in
+    let e = covered_missing c.args.slots.now c.args.steps.now c.loop-i.i lt c.loop-i-test.true c.in-Some.field-0 c.in-Some.is c.in_default-range.is in
     cc (e, c.loop-i.invariant)
 
 pub loop-i-preserved : goal.loop-i-preserved

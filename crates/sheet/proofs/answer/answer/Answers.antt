@@ -4,5 +4,5 @@ use Rattle.sheet.proofs.answer.answer.Goals as goal
 
 pub returns : goal.returns
 returns c =
-    let e = c.in-ok-printed.ensures in
-    record { text = e; tells = told c.args.text.now (string_bytes c.in-ok-printed.printed) e }
+    let e = c.in_ok-printed.ensures in
+    record { text = e; tells = told c.args.text.now (string_bytes c.in_ok-printed.printed) e }

@@ -25,7 +25,7 @@ loop-line-preserved c =
     let same : terms c.loop-line.frame.settings c.loop-line.frame.sizes ≡ t = λ k. terms (c.loop-line.invariant.2 k) (c.loop-line.invariant.3 k) in
     let answer : c.record-answer.result ≡ answer_of t ss f x = c.record-answer.ensures.answer ∙ ap (λ (u : Terms). answer_of u ss f x) same in
     let after : g ≡ recorded t ss f x = c.record-answer.ensures.after ∙ ap (λ (u : Terms). recorded u ss f x) same in (
-      ap (λ (b : List ℕ). b ++ answer_lines t ss g (drop (i + 1) ls)) (c.in-ok-put-answer.ensures ∙ ap (λ (r : Result CurrentEntry Refusal). out ++ answer_line r) answer)
+      ap (λ (b : List ℕ). b ++ answer_lines t ss g (drop (i + 1) ls)) (c.in_ok-put_answer.ensures ∙ ap (λ (r : Result CurrentEntry Refusal). out ++ answer_line r) answer)
           ∙ ap (λ (h : Recording). (out ++ answer_line (answer_of t ss f x)) ++ answer_lines t ss h (drop (i + 1) ls)) after
           ∙ sym (answers_more t ss f ls i no_line out c.loop-line-test.true) ∙ c.loop-line.invariant.0,
       ap (λ (h : Recording). recorded_all t ss h (drop (i + 1) ls)) after ∙ sym (recorded_more t ss f ls i no_line c.loop-line-test.true) ∙ c.loop-line.invariant.1,

@@ -25,12 +25,12 @@ module _ (f : Frame) (s : Settings) (d : IndirectDraw) (b : DrawIndirectValidati
   same_terms : terms f.settings f.sizes ≡ terms_of s.alignment s.largest_binding
   same_terms = λ i. record { alignment = (es i).alignment; largest = (es i).largest_binding; room = ez.0 i; src = src_stride; dst = dst_stride }
 
-pub put-plan-requires : goal.put-plan-requires
-put-plan-requires c =
+pub put_plan-requires : goal.put_plan-requires
+put_plan-requires c =
     let n = c.new-frame.ensures in
     let t = terms c.new-frame.result.settings c.new-frame.result.sizes in
-    let e : recording_of c.put-draws.new.frame c.put-draws.new.draws c.put-draws.new.batches ≡ recorded_all t c.args.sources.now fresh c.args.lines.now =
-    c.in-ok-put-draws.ensures.after
+    let e : recording_of c.put_draws.new.frame c.put_draws.new.draws c.put_draws.new.batches ≡ recorded_all t c.args.sources.now fresh c.args.lines.now =
+    c.in_ok-put_draws.ensures.after
     ∙ ap (λ (f : Recording). recorded_all t c.args.sources.now f c.args.lines.now) (starts c.new-frame.result c.args.settings c.empty-draws.result c.empty-batches.result n.settings n.sizes n.batcher n.destinations c.empty-draws.ensures c.empty-batches.ensures) in
     let i = subst Inside (sym e) (inside t c.args.sources.now c.args.lines.now) in
     record { draws = i.0; batches = i.1 }
@@ -46,9 +46,9 @@ pub returns : goal.returns
 returns c =
     let n = c.new-frame.ensures in
     let f = c.new-frame.result in
-    let d = c.in-ok-put-draws.ensures in
-    let last = c.put-draws.new.frame in
-    let r = recording_of last c.put-draws.new.draws c.put-draws.new.batches in
+    let d = c.in_ok-put_draws.ensures in
+    let last = c.put_draws.new.frame in
+    let r = recording_of last c.put_draws.new.draws c.put_draws.new.batches in
     let t = terms f.settings f.sizes in
     let u = terms_of c.args.settings.alignment c.args.settings.largest_binding in
     let et : t ≡ u = same_terms f c.args.settings c.empty-draws.result c.empty-batches.result n.settings n.sizes n.batcher n.destinations c.empty-draws.ensures c.empty-batches.ensures in
@@ -56,6 +56,6 @@ returns c =
     let ef : first ≡ fresh = starts f c.args.settings c.empty-draws.result c.empty-batches.result n.settings n.sizes n.batcher n.destinations c.empty-draws.ensures c.empty-batches.ensures in
     let block : last.sizes.block ≡ 67108864 = ap (λ (z : Sizes). z.block) d.sizes ∙ n.sizes.1 in
     let room : last.sizes.buffer ≡ 1048560 = ap (λ (z : Sizes). z.buffer) d.sizes ∙ n.sizes.0 in
-    c.in-ok-put-plan.ensures
+    c.in_ok-put_plan.ensures
     ∙ ap (λ (b : List ℕ). b ++ planned_text last.sizes.block last.sizes.buffer r) d.text
     ∙ joined (string_bytes c.args.out.now) t u c.args.sources.now first fresh r last.sizes.block 67108864 last.sizes.buffer 1048560 c.args.lines.now et ef d.after block room

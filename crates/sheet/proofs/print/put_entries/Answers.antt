@@ -5,7 +5,7 @@ use Rattle.sheet.proofs.print.put_entries.Goals as goal
 
 pub loop-draw-preserved : goal.loop-draw-preserved
 loop-draw-preserved c =
-    ap (λ (b : List ℕ). b ++ entry_lines c.args.number (drop (c.loop-draw.draw-index + 1) c.args.draws.now)) c.in-ok-put-entry-of.ensures
+    ap (λ (b : List ℕ). b ++ entry_lines c.args.number (drop (c.loop-draw.draw-index + 1) c.args.draws.now)) c.in_ok-put_entry_of.ensures
     ∙ sym (entries_more (string_bytes c.loop-draw.out) c.args.number c.args.draws.now c.loop-draw.draw-index c.loop-draw-test.true) ∙ c.loop-draw.invariant
 
 pub returns : goal.returns

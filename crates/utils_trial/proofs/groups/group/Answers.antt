@@ -4,7 +4,7 @@ use Rattle.utils.proofs.Reading.{Read, read_none, read_more, read_many, firsts_f
 use Rattle.utils.specs.Firsts.{firsts}
 use Rattle.utils.specs.Marks.{insertion}
 use Rattle.utils_trial.proofs.groups.group.Goals as goal
-use Rattle.utils_trial.proofs.groups.group.Goals.{then-first+in-ok-push, else-first}
+use Rattle.utils_trial.proofs.groups.group.Goals.{then-first+in_ok-push, else-first}
 use Rattle.utils_trial.specs.declared.batch.Batch.{Batch}
 use Rattle.utils_trial.specs.Named.{destinations}
 
@@ -26,9 +26,9 @@ loop-batch-preserved c =
     let more : next ≡ named ++ x ∷ [] = map_more (λ b. b.destination) bs i none c.loop-batch-test.true in
     let out : vec_items c.if-first.out ≡ vec_items c.args.out.now ++ firsts next =
     elim c.if-first.branch [
-      | then-first+in-ok-push w ↦
+      | then-first+in_ok-push w ↦
           ap vec_items w.out-is
-          ∙ (w.in-ok-push.ensures.items
+          ∙ (w.in_ok-push.ensures.items
           ∙ (ap (λ (l : List ℕ). l ++ x ∷ []) c.loop-batch.invariant.2
           ∙ (append_assoc (vec_items c.args.out.now) (firsts named) (x ∷ [])
           ∙ ap (λ (l : List ℕ). vec_items c.args.out.now ++ l) (sym (firsts_first n named next ms x c.in-Some.first more r q w.if-first.true)))))

@@ -7,9 +7,9 @@ pub returns-then-self-eq-MOST : goal.returns-then-self-eq-MOST
 returns-then-self-eq-MOST g c =
     let s = c.args.self.now in
     let q = queue s.held s.count (g.E.Device.means s.below) in
-    let b = g.E.Device.means c.play-all.new.encoder in
+    let b = g.E.Device.means c.play_all.new.encoder in
     let e : queue (set s.held s.count c.args.command) 0 b ≡ queued c.args.command q =
-    queued_played s.held s.count c.args.command (g.E.Device.means s.below) s.room s.few b c.if-self-eq-MOST.true c.play-all.ensures.after in
+    queued_played s.held s.count c.args.command (g.E.Device.means s.below) s.room s.few b c.if-self-eq-MOST.true c.play_all.ensures.after in
     record { queue = e; after = ap meant e ∙ meant_queued c.args.command q }
 
 pub returns-else-self-eq-MOST : goal.returns-else-self-eq-MOST

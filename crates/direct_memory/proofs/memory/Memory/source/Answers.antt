@@ -7,10 +7,10 @@ use Rattle.direct_memory.specs.Lies.{place_of}
 use Rattle.direct_memory.proofs.Keeping.{source_words, sources_counted}
 use Rattle.direct_memory.proofs.memory.Memory.source.Goals as goal
 
-pub returns-in-default : goal.returns-in-default
-returns-in-default c =
+pub returns-in_default : goal.returns-in_default
+returns-in_default c =
     let s = c.args.self.now in
-    rw (sources_counted s, le-ltb c.args.source s.numbers.source_count c.in-default.ensures)
+    rw (sources_counted s, le-ltb c.args.source s.numbers.source_count c.in_default.ensures)
 
 pub returns : goal.returns
 returns c =

@@ -9,10 +9,10 @@ use Rattle.direct_memory.proofs.Changing.{stored_in, word_high, word_in, word_pa
 use Rattle.direct_memory.proofs.Keeping.{booked_set, fits, source_count_lem, source_listed, source_place}
 use Rattle.direct_memory.proofs.memory.Memory.store.Goals as goal
 
-pub returns-in-default : goal.returns-in-default
-returns-in-default c =
+pub returns-in_default : goal.returns-in_default
+returns-in_default c =
     let s = c.args.self.now in
-    let past : length (shape s.numbers).sources ≤ c.args.source = omega (arith, source_count_lem s, c.in-default.ensures) in
+    let past : length (shape s.numbers).sources ≤ c.args.source = omega (arith, source_count_lem s, c.in_default.ensures) in
     let not = word_past (shape s.numbers) (vec_items s.words) (fits s) c.args.source c.args.word past in
     record { answer = sym not; after = sym (cond-false _ _ _ not) }
 
@@ -25,8 +25,8 @@ returns-then-word-region c =
     let not = word_high (shape s.numbers) (vec_items s.words) (fits s) c.args.source c.args.word (source_listed s c.args.source l.there) high in
     record { answer = sym not; after = sym (cond-false _ _ _ not) }
 
-pub invariant-of-self : goal.invariant-of-self
-invariant-of-self c =
+pub invariant_of-self : goal.invariant_of-self
+invariant_of-self c =
     let s = c.args.self.now in
     let l = c.in-Some.ensures in
     (s.room, (booked_set s (c.in-Some.region.start + c.args.word) c.args.value (omega (arith, l.below, c.if-word-region.false)), tt))

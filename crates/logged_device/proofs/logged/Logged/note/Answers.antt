@@ -10,4 +10,4 @@ returns-then-self-lt-KEPT g c =
 pub returns-else-self-lt-KEPT : goal.returns-else-self-lt-KEPT
 returns-else-self-lt-KEPT g c =
     let s = c.args.self.now in
-    record { log = log_full s.log s.count c.args.command s.room c.saturating-add-self.result c.saturating-add-self.ensures c.if-self-lt-KEPT.false; below = refl }
+    record { log = log_full s.log s.count c.args.command s.room c.saturating_add-self.result c.saturating_add-self.ensures c.if-self-lt-KEPT.false; below = refl }

@@ -6,4 +6,4 @@ use Rattle.deferred_device.proofs.deferred.encode.DeferredDevice.block_count.Goa
 pub returns : goal.returns
 returns g c =
     let s = c.args.self.now in
-    c.block-count.ensures ∙ sym (ap (λ (a : Answers). a.blocks) (leaves_all (take s.count s.held) (g.E.Device.means s.below)).answered)
+    c.block_count.ensures ∙ sym (ap (λ (a : Answers). a.blocks) (leaves_all (take s.count s.held) (g.E.Device.means s.below)).answered)

@@ -6,4 +6,4 @@ use Rattle.deferred_device.proofs.deferred.encode.DeferredDevice.free_staging.Go
 pub returns : goal.returns
 returns g c =
     let s = c.args.self.now in
-    c.free-staging.ensures ∙ sym (ap (λ (a : Answers). a.free) (leaves_all (take s.count s.held) (g.E.Device.means s.below)).answered)
+    c.free_staging.ensures ∙ sym (ap (λ (a : Answers). a.free) (leaves_all (take s.count s.held) (g.E.Device.means s.below)).answered)

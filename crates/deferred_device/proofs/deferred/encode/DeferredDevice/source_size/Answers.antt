@@ -8,4 +8,4 @@ returns g c =
     let s = c.args.self.now in
     let same = sym (leaves_all (take s.count s.held) (g.E.Device.means s.below)).sources in
     let P : List Source → Type 0 = λ ss. Sound ss in
-    record { answer = c.source-size.ensures.answer ∙ ap (source_size c.args.source) same; sound = subst P same c.source-size.ensures.sound }
+    record { answer = c.source_size.ensures.answer ∙ ap (source_size c.args.source) same; sound = subst P same c.source_size.ensures.sound }
