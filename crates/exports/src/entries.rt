@@ -30,8 +30,7 @@ pub struct Verdict {
 }
 
 /// Packs a draw into an entry. Status 7 for a kind other than 0 and 1, then 65 for a wide offset.
-#[unsafe(no_mangle)]
-pub extern "C" fn jorumspit_entry(
+pub fn jorumspit_entry(
     kind: u64,
     src_offset: u64,
     dst_offset: u64,
@@ -78,8 +77,7 @@ fn verdict_of(arguments: Arguments) -> Verdict
 
 /// Checks an entry against the words of its window. A flag of 0 allows no first instance but 0.
 /// Status 64 where the entry reads outside the window.
-#[unsafe(no_mangle)]
-pub extern "C" fn jorumspit_verdict(
+pub fn jorumspit_verdict(
     entry: &Entry,
     window: &[u32],
     first_instance_allowed: u32,

@@ -45,13 +45,7 @@ pub struct Report {
 }
 
 /// The limits of a pipeline's steps over the slots; all 0 where there is no pipeline.
-#[unsafe(no_mangle)]
-pub extern "C" fn jorumspit_limits(
-    slots: &[Slot],
-    pipeline: u64,
-    steps: &[Step],
-    limits: &mut Limits,
-) -> u32
+pub fn jorumspit_limits(slots: &[Slot], pipeline: u64, steps: &[Step], limits: &mut Limits) -> u32
     ensures status { result ≡ result_status (slots_and_steps slots.now pipeline steps.now) }
     ensures written { limits.new ≡ limits_written (slots_and_steps slots.now pipeline steps.now) limits.old }
 {
@@ -71,8 +65,7 @@ pub extern "C" fn jorumspit_limits(
 }
 
 /// How many indices of `bytes` a range has; 0 where none is bound.
-#[unsafe(no_mangle)]
-pub extern "C" fn jorumspit_index_limit(index: &Index, limit: &mut u64) -> u32
+pub fn jorumspit_index_limit(index: &Index, limit: &mut u64) -> u32
     ensures status { result ≡ result_status (index_bound index.now unbound) }
     ensures written { limit.new ≡ index_written (index_bound index.now unbound) limit.old }
 {
@@ -142,8 +135,7 @@ fn report_of(refusal: &Refusal) -> Report
 }
 
 /// Judges a direct draw over what is bound. The report is written whatever the status is.
-#[unsafe(no_mangle)]
-pub extern "C" fn jorumspit_draw(
+pub fn jorumspit_draw(
     slots: &[Slot],
     pipeline: u64,
     steps: &[Step],

@@ -18,8 +18,7 @@ pub struct Window {
 }
 
 /// The window that serves `offset` in a source of `size` bytes. Status 1 where the settings are not lawful.
-#[unsafe(no_mangle)]
-pub extern "C" fn jorumspit_window(
+pub fn jorumspit_window(
     alignment: u64,
     largest_binding: u64,
     size: u64,

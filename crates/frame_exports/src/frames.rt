@@ -190,8 +190,7 @@ fn put_frame(
 
 /// Records requests for indirect draws over sources of given sizes, plans the frame, and writes the answers, the
 /// accepted draws, the batches and how much it all takes. Nothing is written at status 1, 66 or 67.
-#[unsafe(no_mangle)]
-pub extern "C" fn jorumspit_frame(
+pub fn jorumspit_frame(
     settings: &FrameSettings,
     sources: &[u64],
     requests: &[Request],

@@ -54,8 +54,7 @@ fn put_places(sizes: &[u64], buffer_size: u64, buffers: usize, places: &mut [Pla
 /// Places sizes one after another in buffers of `buffer_size` bytes, of which there are `buffers`. Each size has a
 /// place of its own in the output, which is refused for want of a buffer alone. Status 67 where the output has
 /// fewer places than there are sizes: nothing is written.
-#[unsafe(no_mangle)]
-pub extern "C" fn jorumspit_places(
+pub fn jorumspit_places(
     sizes: &[u64],
     buffer_size: u64,
     buffers: usize,
