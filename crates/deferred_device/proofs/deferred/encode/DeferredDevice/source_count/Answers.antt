@@ -5,4 +5,4 @@ use Rattle.deferred_device.proofs.deferred.encode.DeferredDevice.source_count.Go
 pub returns : goal.returns
 returns g c =
     let s = c.args.self.now in
-    c.source_count_lem.ensures ∙ sym (ap length (leaves_all (take s.count s.held) (g.E.Device.means s.below)).sources)
+    c.source_count.ensures ∙ sym (ap length (leaves_all (take s.count s.held) (g.E.Device.means s.below)).sources)
