@@ -19,7 +19,7 @@ invariant_of-self c =
     let zeros = replicate {A = ℕ} r.size 0 in
     let e : c.zero.new.words ≡ sets (vec_items s.words) r.start zeros = c.zero.ensures ∙ ap (λ t. sets t r.start zeros) c.deref_mut.ensures.value in
     let above : pool_at (shape s.numbers) ≤ r.start = omega (arith, ap (λ (x : Region). x.start) c.buffer_region-region.ensures.value) in
-    (s.room, (booked_above s c.zero.new.words zeros r.start e above, tt))
+    record { room = s.room; books = booked_above s c.zero.new.words zeros r.start e above }
 
 pub returns : goal.returns
 returns c =

@@ -29,7 +29,7 @@ pub invariant_of-self : goal.invariant_of-self
 invariant_of-self c =
     let s = c.args.self.now in
     let l = c.in-Some.ensures in
-    (s.room, (booked_set s (c.in-Some.region.start + c.args.word) c.args.value (omega (arith, l.below, c.if-word-region.false)), tt))
+    record { room = s.room; books = booked_set s (c.in-Some.region.start + c.args.word) c.args.value (omega (arith, l.below, c.if-word-region.false)) }
 
 pub returns : goal.returns
 returns c =
