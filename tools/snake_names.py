@@ -94,6 +94,18 @@ def turn_antt(text, names, lemmas=None):
     return "\n".join(out)
 
 
+def own_name(text):
+    """The library's `AllByRecursion` under its own name: the gate takes no other for it."""
+    if "AllByRecursion as All" not in text:
+        return text
+    out = []
+    for line in text.replace("AllByRecursion as All", "AllByRecursion").split("\n"):
+        at = line.find("--")
+        at = len(line) if at < 0 else at
+        out.append(TOKEN.sub(lambda m: "AllByRecursion" if m[0] == "All" else m[0], line[:at]) + line[at:])
+    return "\n".join(out)
+
+
 def camel_only(comment, names):
     """In prose only camel case is surely a name."""
     return re.sub(r"[A-Za-z][A-Za-z0-9]*", lambda m: snake(m[0]) if m[0] in names and re.search(r"[a-z][A-Z]", m[0]) else m[0], comment)
@@ -160,7 +172,7 @@ def main(argv):
         with open(path, encoding="utf-8") as f:
             text = f.read()
         lemmas = LEMMAS.get(os.path.relpath(path, root), {})
-        new = turn_antt(text, names, lemmas) if path.endswith(".antt") else turn_rt(text, names)
+        new = own_name(turn_antt(text, names, lemmas)) if path.endswith(".antt") else turn_rt(text, names)
         if new == text:
             continue
         before, after = ghost_tokens(path, text), ghost_tokens(path, new)

@@ -1,7 +1,7 @@
 -- No batch has more entries than a buffer holds.
 use Rattle.std.proofs.Common.{◌≡◌, ℕ, ◌+◌, ◌*◌, ◌<◌, ◌≤◌, Bool, true, false, cond, eqb, List, [], ◌∷◌, map, length, get_or, Option, sym, refl, ap, ◌∙◌, arith, eqb-true}
 use Rattle.std.proofs.ByRecursion.{All-from_get_or}
-use Rattle.std.specs.List.{AllByRecursion as All}
+use Rattle.std.specs.List.{AllByRecursion}
 use Rattle.command.specs.declared.family.DrawCommandFamily.{DrawCommandFamily}
 use Rattle.places.proofs.Spreading.{laid_apart}
 use Rattle.places.specs.Laid.{Span, span, Before, Pairwise, Within}
@@ -18,30 +18,30 @@ abbrev From : ℕ → ℕ → ℕ → IndirectDraw → Type 0
 From i x lo d = d.batch ≡ i → (d.place.index ≡ x) × (lo ≤ d.place.offset)
 
 module _ (t : Terms) (least : (f : DrawCommandFamily) → 16 ≤ t.dst f) (i x : ℕ) where
-  past_first : (d : IndirectDraw) (lo : ℕ) → lo ≤ d.place.offset → d.place.index ≡ x → (ds : List IndirectDraw) → All (Before (span_of t d)) (map (span_of t) ds) → All (From i x lo) ds → All (From i x (lo + 16)) ds
+  past_first : (d : IndirectDraw) (lo : ℕ) → lo ≤ d.place.offset → d.place.index ≡ x → (ds : List IndirectDraw) → AllByRecursion (Before (span_of t d)) (map (span_of t) ds) → AllByRecursion (From i x lo) ds → AllByRecursion (From i x (lo + 16)) ds
   past_first d lo h e [] b f = tt
   past_first d lo h e (z ∷ ds) b f =
       ((λ q. ((f.0 q).0, omega (arith, b.0.1 (e ∙ sym (f.0 q).0), least d.family, h))), past_first d lo h e ds b.1 f.1)
 
-  room_for : (ds : List IndirectDraw) (lo : ℕ) → lo ≤ t.room → Pairwise Before (map (span_of t) ds) → All (Within t.room) (map (span_of t) ds) → All (From i x lo) ds → lo + tally i ds * 16 ≤ t.room
+  room_for : (ds : List IndirectDraw) (lo : ℕ) → lo ≤ t.room → Pairwise Before (map (span_of t) ds) → AllByRecursion (Within t.room) (map (span_of t) ds) → AllByRecursion (From i x lo) ds → lo + tally i ds * 16 ≤ t.room
   room_for [] lo le p w f = omega arith
   room_for (d ∷ ds) lo le p w f = at (eqb d.batch i) refl (λ lo' le' f'. room_for ds lo' le' p.1 w.1 f')
     where
-      at : (b : Bool) → eqb d.batch i ≡ b → ((lo' : ℕ) → lo' ≤ t.room → All (From i x lo') ds → lo' + tally i ds * 16 ≤ t.room) → lo + (cond b 1 0 + tally i ds) * 16 ≤ t.room
+      at : (b : Bool) → eqb d.batch i ≡ b → ((lo' : ℕ) → lo' ≤ t.room → AllByRecursion (From i x lo') ds → lo' + tally i ds * 16 ≤ t.room) → lo + (cond b 1 0 + tally i ds) * 16 ≤ t.room
       at true e more =
           let h = f.0 (eqb-true d.batch i e) in
           let le' : lo + 16 ≤ t.room = omega (arith, h.1, w.0, least d.family) in
           omega (arith, more (lo + 16) le' (past_first d lo h.1 h.0 ds p.0 f.1))
       at false e more = omega (arith, more lo le f.1)
 
-  from_all : (ks : List BatchKey) → x ≡ (get_or ks i no_key).destination → (ws : List Wanted) (ds : List IndirectDraw) → Paired (Recorded t ks) ws ds → All (From i x 0) ds
+  from_all : (ks : List BatchKey) → x ≡ (get_or ks i no_key).destination → (ws : List Wanted) (ds : List IndirectDraw) → Paired (Recorded t ks) ws ds → AllByRecursion (From i x 0) ds
   from_all ks e [] [] p = tt
   from_all ks e [] (d ∷ ds) p = absurd p
   from_all ks e (w ∷ ws) [] p = tt
   from_all ks e (w ∷ ws) (d ∷ ds) p =
       ((λ q. (ap (λ (k : BatchKey). k.destination) (sym p.0.key) ∙ ap (λ (n : ℕ). (get_or ks n no_key).destination) q ∙ sym e, omega arith)), from_all ks e ws ds p.1)
 
-sizes_fit : (t : Terms) → ((f : DrawCommandFamily) → t.dst f ≤ t.room) → (ds : List IndirectDraw) → All (λ (s : Span). s.size ≤ t.room) (map (span_of t) ds)
+sizes_fit : (t : Terms) → ((f : DrawCommandFamily) → t.dst f ≤ t.room) → (ds : List IndirectDraw) → AllByRecursion (λ (s : Span). s.size ≤ t.room) (map (span_of t) ds)
 sizes_fit t most [] = tt
 sizes_fit t most (d ∷ ds) = (most d.family, sizes_fit t most ds)
 

@@ -1,7 +1,7 @@
 -- What a search from the first batch finds.
 use Rattle.std.proofs.Common.{◌≡◌, ℕ, suc, ◌+◌, ◌<◌, ◌≤◌, Bool, true, false, cond, List, [], ◌∷◌, length, get_or, take, drop, Some, None, Option, sym, refl, ap, ◌∙◌, subst, add-one, arith, drop-cons}
 use Rattle.std.proofs.lemmas.List.{drop_all}
-use Rattle.std.specs.List.{AllByRecursion as All}
+use Rattle.std.specs.List.{AllByRecursion}
 use Rattle.batcher.specs.declared.records.BatchKey.{BatchKey}
 use Rattle.batcher.specs.declared.records.DrawIndirectValidationBatch.{DrawIndirectValidationBatch}
 use Rattle.batcher.specs.Keys.{found, has_key, First, Finds}
@@ -29,7 +29,7 @@ found_none k bs i h = sym (ap (λ (l : List DrawIndirectValidationBatch). found 
 
 -- the answer of a search that began to count at o
 abbrev FindsFrom : BatchKey → List DrawIndirectValidationBatch → ℕ → Option ℕ → Type 0
-FindsFrom k bs o None = All (λ b. has_key k b ≡ false) bs
+FindsFrom k bs o None = AllByRecursion (λ b. has_key k b ≡ false) bs
 FindsFrom k bs o (Some i) = (j : ℕ) × (i ≡ o + j) × First k bs j
 
 later : (k : BatchKey) (b : DrawIndirectValidationBatch) (bs : List DrawIndirectValidationBatch) (o : ℕ) → has_key k b ≡ false → (r : Option ℕ) → FindsFrom k bs (o + 1) r → FindsFrom k (b ∷ bs) o r

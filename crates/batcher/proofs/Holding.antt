@@ -4,7 +4,7 @@ use lib.ListN.{get_or-map}
 use lib.Seq.{take-set-lt, map-set_same}
 use Rattle.std.proofs.lemmas.List.{length-set, length_push, length-map, get_or_append_left, get_or_push, get_or-set_same, get_or-set_other, map_push, take_more_set, length-take-le, get_or-take}
 use Rattle.std.proofs.lemmas.Bool.{cases_eq}
-use Rattle.std.specs.List.{AllByRecursion as All}
+use Rattle.std.specs.List.{AllByRecursion}
 use Rattle.places.proofs.Laying.{next_placed}
 use Rattle.places.specs.Laid.{Span, span, Laid, Ends, Next}
 use Rattle.places.specs.Placed.{past}
@@ -19,7 +19,7 @@ use Rattle.batcher.specs.Records.{no_key, no_batch}
 use Rattle.batcher.proofs.Finding.{finds}
 use Rattle.batcher.proofs.Pushing.{paired_push, paired_weaker, different_push, same_key_lem, tally_push, ranked_push, opens_old, opens_new, tally_none}
 
-all_keys : (k : BatchKey) (bs : List DrawIndirectValidationBatch) → All (λ b. has_key k b ≡ false) bs → All (λ j. same_key j k ≡ false) (map key_of bs)
+all_keys : (k : BatchKey) (bs : List DrawIndirectValidationBatch) → AllByRecursion (λ b. has_key k b ≡ false) bs → AllByRecursion (λ j. same_key j k ≡ false) (map key_of bs)
 all_keys k [] a = tt
 all_keys k (b ∷ bs) a = (a.0, all_keys k bs a.1)
 
@@ -91,7 +91,7 @@ module _ (t : Terms) (ws : List Wanted) (cur : Option CurrentEntry) (ds : List I
         }
 
   -- the draw opens a batch
-  module _ (none : All (λ b. has_key (key_at t w place) b ≡ false) bs) where
+  module _ (none : AllByRecursion (λ b. has_key (key_at t w place) b ≡ false) bs) where
     abbrev opening : IndirectDraw
     opening = draw (length bs) 0
 

@@ -2,7 +2,7 @@
 use Rattle.std.proofs.Common.{◌≡◌, ℕ, ◌+◌, ◌-◌, ◌^◌, ◌<◌, ◌≤◌, Bool, true, false, cond, ltb, leb, List, [], ◌∷◌, ◌++◌, length, get_or, take, set, Some, None, Ok, Err, Option, Result, sym, refl, ap, ◌∙◌, subst, arith, ltb-false, leb-false, MatchResult}
 use lib.Seq.{take-set-lt}
 use Rattle.std.proofs.lemmas.List.{length-set, take_more_set, length-take-le, get_or-take}
-use Rattle.std.specs.List.{AllByRecursion as All}
+use Rattle.std.specs.List.{AllByRecursion}
 use Rattle.command.proofs.Checking.{first_ok, then_ok}
 use Rattle.command.specs.Checks.{first, and_then}
 use Rattle.command.specs.Family.{family_of}
@@ -59,7 +59,7 @@ module _ (t : Terms) (s : Batching) (ds : List IndirectDraw) (bs : List DrawIndi
                 held;
           }
 
-      keeps_opened : All (λ b. Rattle.batcher.specs.Keys.has_key ready.key b ≡ false) (take s.batches bs) → s.batches < length bs → After (chosen w.family ready s.batches 0 (opened ready.key) true)
+      keeps_opened : AllByRecursion (λ b. Rattle.batcher.specs.Keys.has_key ready.key b ≡ false) (take s.batches bs) → s.batches < length bs → After (chosen w.family ready s.batches 0 (opened ready.key) true)
       keeps_opened none l =
           let long : length (take s.batches bs) ≡ s.batches = length-take-le s.batches bs h.opened in
           let d = draw_at t w (place_for t s.current w) s.batches 0 in

@@ -3,7 +3,7 @@ use Rattle.std.proofs.Common.{◌≡◌, ℕ, zero, suc, ◌+◌, ◌<◌, ◌�
 use borrow.Author.Tests.{eqb-false}
 use Rattle.std.proofs.ByRecursion.{All-push}
 use Rattle.std.proofs.lemmas.Bool.Decides.{nat_tests}
-use Rattle.std.specs.List.{AllByRecursion as All}
+use Rattle.std.specs.List.{AllByRecursion}
 use Rattle.batcher.specs.declared.records.BatchKey.{BatchKey}
 use Rattle.batcher.specs.declared.records.IndirectDraw.{IndirectDraw}
 use Rattle.batcher.specs.Holds.{Paired, tally, Ranked, Opens, Different}
@@ -22,7 +22,7 @@ module _ {X Y : Type 0} (R : X → Y → Type 0) where
   paired_weaker S f (x ∷ xs) [] p = p
   paired_weaker S f (x ∷ xs) (y ∷ ys) p = (f x y p.0, paired_weaker S f xs ys p.1)
 
-pub different_push : (ks : List BatchKey) (k : BatchKey) → Different ks → All (λ j. same_key j k ≡ false) ks → Different (ks ++ k ∷ [])
+pub different_push : (ks : List BatchKey) (k : BatchKey) → Different ks → AllByRecursion (λ j. same_key j k ≡ false) ks → Different (ks ++ k ∷ [])
 different_push [] k l a = (tt, tt)
 different_push (j ∷ ks) k l a = (All-push (λ i. same_key j i ≡ false) ks k l.0 a.0, different_push ks k l.1 a.1)
 

@@ -1,6 +1,6 @@
 -- What stands in the tables, by the draws that were accepted.
 use Rattle.std.specs.Prelude.{◌≡◌, ℕ, ◌+◌, ◌*◌, ◌<◌, ◌≤◌, Bool, false, cond, ◌⊎◌, List, [], ◌∷◌, ◌++◌, map, length, take, Some, None, Option, ◌==◌, slice_index_or}
-use Rattle.std.specs.List.{AllByRecursion as All}
+use Rattle.std.specs.List.{AllByRecursion}
 use Rattle.command.specs.Family.{family_of}
 use Rattle.command.specs.declared.family.DrawCommandFamily.{DrawCommandFamily}
 use Rattle.places.specs.Laid.{Span, span, Laid, Ends}
@@ -50,7 +50,7 @@ Opens n (d ∷ ds) m = ((d.batch < n) × Opens n ds m) ⊎ ((d.batch ≡ n) × O
 
 abbrev pub Different : List BatchKey → Type 0
 Different [] = Unit {0}
-Different (k ∷ ks) = All (λ j. same_key k j ≡ false) ks × Different ks
+Different (k ∷ ks) = AllByRecursion (λ j. same_key k j ≡ false) ks × Different ks
 
 -- the records of both tables, for the draws that were accepted, in their order
 pub record Held (t : Terms) (ws : List Wanted) (current : Option CurrentEntry) (ds : List IndirectDraw) (bs : List DrawIndirectValidationBatch) : Type 0 where
@@ -79,4 +79,4 @@ asked q = asked_of q (family_of q.kind) q.size
 
 -- no batch has more entries of 16 bytes than a buffer holds
 abbrev pub Bounded : ℕ → List DrawIndirectValidationBatch → Type 0
-Bounded room bs = All (λ b. b.count * 16 ≤ room) bs
+Bounded room bs = AllByRecursion (λ b. b.count * 16 ≤ room) bs

@@ -1,6 +1,6 @@
 -- Batches by their keys.
 use Rattle.std.specs.Prelude.{◌≡◌, ℕ, ◌+◌, ◌<◌, Bool, true, false, cond, List, [], ◌∷◌, length, take, Some, None, Option, ◌==◌, slice_index_or}
-use Rattle.std.specs.List.{AllByRecursion as All}
+use Rattle.std.specs.List.{AllByRecursion}
 use Rattle.batcher.specs.declared.records.BatchKey.{BatchKey}
 use Rattle.batcher.specs.declared.records.DrawIndirectValidationBatch.{DrawIndirectValidationBatch}
 use Rattle.batcher.specs.Records.{no_batch}
@@ -20,9 +20,9 @@ found k (b ∷ bs) i = cond (has_key k b) (Some i) (found k bs (i + 1))
 pub record First (k : BatchKey) (bs : List DrawIndirectValidationBatch) (i : ℕ) : Type 0 where
   pub within : i < length bs
   pub has : has_key k (slice_index_or bs i no_batch) ≡ true
-  pub sooner : All (λ b. has_key k b ≡ false) (take i bs)
+  pub sooner : AllByRecursion (λ b. has_key k b ≡ false) (take i bs)
 
 -- what a search answers: nothing exactly where no batch has the key
 abbrev pub Finds : BatchKey → List DrawIndirectValidationBatch → Option ℕ → Type 0
-Finds k bs None = All (λ b. has_key k b ≡ false) bs
+Finds k bs None = AllByRecursion (λ b. has_key k b ≡ false) bs
 Finds k bs (Some i) = First k bs i

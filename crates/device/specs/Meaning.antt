@@ -1,6 +1,6 @@
 -- What a device is to its callers.
 use Rattle.std.specs.Prelude.{◌≡◌, ℕ, ◌+◌, ◌/◌, ◌^◌, ◌<◌, Bool, true, false, cond, List, [], ◌∷◌, length, Some, None, Option, nat_lt, slice_index_or}
-use Rattle.std.specs.List.{AllByRecursion as All}
+use Rattle.std.specs.List.{AllByRecursion}
 use Rattle.device.specs.declared.buffers.BufferUses.{BufferUses}
 use Rattle.device.specs.declared.buffers.BufferUses.TheVariants.{MapWrite}
 use Rattle.device.specs.declared.buffers.PoolKind.{PoolKind}
@@ -79,10 +79,10 @@ source_size i ss = cond (nat_lt i (length ss)) (Some (slice_index_or ss i no_sou
 pub record SoundSource (s : Source) : Type 0 where
   pub small : s.size < 2 ^ 32
   pub whole : length s.words ≡ (s.size + 3) / 4
-  pub fits : All (λ w. w < 2 ^ 32) s.words
+  pub fits : AllByRecursion (λ w. w < 2 ^ 32) s.words
 
 abbrev pub Sound : List Source → Type 0
-Sound ss = All SoundSource ss
+Sound ss = AllByRecursion SoundSource ss
 
 -- a device that nothing was asked of yet; its sources may hold anything
 pub record New (m : Meaning) : Type 0 where

@@ -1,6 +1,6 @@
 -- a text that is read as a sheet has just the lines of that sheet
 use Rattle.std.proofs.Common.{◌≡◌, ℕ, suc, ◌+◌, ◌<◌, ◌≤◌, false, cond, eqb, ltb, ◌⊎◌, List, [], ◌∷◌, ◌++◌, map, length, Some, None, Option, sym, refl, ap, ◌∙◌, subst, inl, inr, append_assoc, append-nil, arith, length-append}
-use Rattle.std.specs.List.{AllByRecursion as All}
+use Rattle.std.specs.List.{AllByRecursion}
 use Rattle.std.proofs.lemmas.List.{map_push, length_push, append_cancel_right}
 use Rattle.std.proofs.lemmas.Bool.{cond-false, cond_both, ltb-true, ltb-false, le-ltb}
 use Rattle.page.specs.declared.line.DrawLine.{DrawLine}
@@ -103,7 +103,7 @@ total_lines (c ∷ cs) =
     first [] h = omega arith
     first (l ∷ ls) h = omega arith
 
-each_line : (ls : List (List ℕ)) (xs : List Line) → map line_of ls ≡ map Some xs → All LineFits xs × (length (lines_text xs) ≤ total ls)
+each_line : (ls : List (List ℕ)) (xs : List Line) → map line_of ls ≡ map Some xs → AllByRecursion LineFits xs × (length (lines_text xs) ≤ total ls)
 unfolding lines_text
 each_line [] [] e = (tt, omega arith)
 each_line [] (x ∷ xs) e = let z : ◌≡◌ {A = ℕ} 0 1 = cc in absurd (omega arith)
@@ -130,7 +130,7 @@ abbrev tails : Sheet → List Line
 tails p = Binding p.binding ∷ (map Source p.sources ++ map Draw p.draws)
 
 -- a text without leading zeros has the same lines
-plain_lines : (text : List ℕ) (p : Sheet) → All LineFits (sheet_lines p) → (unpadded text ≡ written p) ⊎ (unpadded text ++ (10 ∷ []) ≡ written p) → lines_of (unpadded text) ≡ map line_text (sheet_lines p)
+plain_lines : (text : List ℕ) (p : Sheet) → AllByRecursion LineFits (sheet_lines p) → (unpadded text ≡ written p) ⊎ (unpadded text ++ (10 ∷ []) ≡ written p) → lines_of (unpadded text) ≡ map line_text (sheet_lines p)
 plain_lines text p h (inl e) = ap lines_of e ∙ lines_text_lem (sheet_lines p) h
 plain_lines text p h (inr e) = ap lines_of (append_cancel_right (unpadded text) (shorn (Align p.align) (tails p)) (10 ∷ []) (e ∙ sym (shorn_ended (Align p.align) (tails p)))) ∙ lines_shorn (Align p.align) (tails p) h
 

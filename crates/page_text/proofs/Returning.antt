@@ -1,6 +1,6 @@
 -- what is written of a sheet is read back
 use Rattle.std.proofs.Common.{◌≡◌, ℕ, ◌^◌, ◌<◌, ◌≤◌, true, cond, leb, List, [], ◌∷◌, ◌++◌, map, length, Some, None, codes, decimal, Option, sym, refl, ap, ◌∙◌, append_assoc, arith, lit<, rules}
-use Rattle.std.specs.List.{AllByRecursion as All}
+use Rattle.std.specs.List.{AllByRecursion}
 use Rattle.std.proofs.lemmas.Str.Parse.{IsNumeralModel, FoldsDigits, IsDigitsTest, numerals_by_fold}
 use Rattle.std.proofs.lemmas.Fmt.{digits_decimal, digits_value-decimal, length-decimal-le, decimal_nonempty}
 use Rattle.std.proofs.lemmas.Bool.{cond-true, le-leb}
@@ -81,12 +81,12 @@ free_text (Draw d) (hk, hs, ho, hf, hi) =
     ten : (n : ℕ) → n < 2 ^ 64 → Free 10 (decimal n)
     ten n h = free_decimal 10 (omega arith) n h
 
-pub lines_text_lem : (xs : List Line) → All LineFits xs → lines_of (lines_text xs) ≡ map line_text xs
+pub lines_text_lem : (xs : List Line) → AllByRecursion LineFits xs → lines_of (lines_text xs) ≡ map line_text xs
 unfolding lines_text lines_of
 lines_text_lem [] h = refl
 lines_text_lem (x ∷ xs) h = lines_more (line_text x) (lines_text xs) (free_text x h.0) ∙ ap (λ (ls : List (List ℕ)). line_text x ∷ ls) (lines_text_lem xs h.1)
 
-pub map_text : (xs : List Line) → All LineFits xs → map line_of (map line_text xs) ≡ map Some xs
+pub map_text : (xs : List Line) → AllByRecursion LineFits xs → map line_of (map line_text xs) ≡ map Some xs
 map_text [] h = refl
 map_text (x ∷ xs) h = ap (λ (o : Option Line). o ∷ map line_of (map line_text xs)) (line_text_lem x h.0) ∙ ap (λ (ls : List (Option Line)). Some x ∷ ls) (map_text xs h.1)
 
@@ -106,7 +106,7 @@ text_some (Binding n) = omega arith
 text_some (Source n) = omega arith
 text_some (Draw d) = omega arith
 
-pub lines_shorn : (x : Line) (xs : List Line) → All LineFits (x ∷ xs) → lines_of (shorn x xs) ≡ map line_text (x ∷ xs)
+pub lines_shorn : (x : Line) (xs : List Line) → AllByRecursion LineFits (x ∷ xs) → lines_of (shorn x xs) ≡ map line_text (x ∷ xs)
 unfolding shorn lines_of
 lines_shorn x [] h = lines_last (line_text x) (text_some x) (free_text x h.0)
 lines_shorn x (y ∷ ys) h = lines_more (line_text x) (shorn y ys) (free_text x h.0) ∙ ap (λ (ls : List (List ℕ)). line_text x ∷ ls) (lines_shorn y ys h.1)

@@ -1,6 +1,6 @@
 -- what a text that was read as a line looks like
 use Rattle.std.proofs.Common.{◌≡◌, ℕ, suc, ◌+◌, ◌^◌, ◌<◌, ◌≤◌, true, false, cond, eqb, leb, List, [], ◌∷◌, ◌++◌, length, Some, None, codes, decimal, Option, sym, refl, ap, ◌∙◌, subst, arith, length-append}
-use Rattle.std.specs.List.{AllByRecursion as All}
+use Rattle.std.specs.List.{AllByRecursion}
 use Rattle.std.proofs.lemmas.Str.Parse.{digits_value_short}
 use Rattle.std.proofs.lemmas.Fmt.{length-decimal-le}
 use Rattle.std.proofs.lemmas.Bool.{cond_both, eqb-true}
@@ -61,7 +61,7 @@ pub some_of : {A B : Type 0} (f : A → Option B) (o : Option A) (y : B) → and
 some_of f None y e = let z : ◌≡◌ {A = ℕ} 0 1 = cc in absurd (omega arith)
 some_of f (Some a) y e = (a, refl, e)
 
-all_sized : (fs : List (List ℕ)) (ns : List ℕ) → all_numbers fs ≡ Some ns → All (λ n. n < 2 ^ 64) ns × (weight ns ≤ total fs)
+all_sized : (fs : List (List ℕ)) (ns : List ℕ) → all_numbers fs ≡ Some ns → AllByRecursion (λ n. n < 2 ^ 64) ns × (weight ns ≤ total fs)
 all_sized [] ns e = let z : ns ≡ [] = cc in rw z (tt, omega arith)
 all_sized (f ∷ fs) ns e =
     let p = some_of (λ n. before n (all_numbers fs)) (number_of f) ns e in
@@ -72,7 +72,7 @@ all_sized (f ∷ fs) ns e =
     rw z ((h.small, k.0), omega (arith, decimal_shorter f p.0 h, k.1))
 
 -- numbers between commas are below 2^64, and their decimals are no longer
-pub numbers_sized : (bs ns : List ℕ) → numbers_of bs ≡ Some ns → All (λ n. n < 2 ^ 64) ns × (weight ns ≤ length bs + 1)
+pub numbers_sized : (bs ns : List ℕ) → numbers_of bs ≡ Some ns → AllByRecursion (λ n. n < 2 ^ 64) ns × (weight ns ≤ length bs + 1)
 unfolding numbers_of
 numbers_sized bs ns e = let k = all_sized (fields_of bs) ns e in (k.0, omega (arith, k.1, (total_fields bs).0))
 

@@ -1,6 +1,6 @@
 -- the first bad line is the first at which no sheet can go on
 use Rattle.std.proofs.Common.{◌≡◌, ℕ, zero, suc, ◌+◌, ◌<◌, ◌≤◌, Bool, true, false, cond, eqb, ltb, List, [], ◌∷◌, ◌++◌, map, length, take, drop, Some, None, codes, decimal, Option, sym, refl, ap, ◌∙◌, subst, inl, inr, add-zero, add_assoc, zero-add, arith, lit<, length-append}
-use Rattle.std.specs.List.{AllByRecursion as All}
+use Rattle.std.specs.List.{AllByRecursion}
 use Rattle.std.proofs.lemmas.Fmt.{length-decimal-le}
 use Rattle.std.proofs.ByRecursion.{All-append, All-take}
 use Rattle.std.proofs.lemmas.List.{take-append-drop, take_at, take-take, length-take-le}
@@ -121,13 +121,13 @@ total_take k [] h = absurd (omega arith)
 total_take zero (l ∷ ls) h = omega arith
 total_take (suc k) (l ∷ ls) h = omega (arith, total_take k ls (omega arith))
 
-free_lines : (bs : List ℕ) → All (Free 10) (lines_of bs)
+free_lines : (bs : List ℕ) → AllByRecursion (Free 10) (lines_of bs)
 unfolding lines_of
 free_lines [] = tt
 free_lines (c ∷ cs) =
-    cond_both (eqb c 10) ([] ∷ lines_of cs) (on_first c (lines_of cs)) (λ l. All (Free 10) l) (λ _. (tt, free_lines cs)) (λ e. first e (lines_of cs) (free_lines cs))
+    cond_both (eqb c 10) ([] ∷ lines_of cs) (on_first c (lines_of cs)) (λ l. AllByRecursion (Free 10) l) (λ _. (tt, free_lines cs)) (λ e. first e (lines_of cs) (free_lines cs))
   where
-    first : eqb c 10 ≡ false → (ls : List (List ℕ)) → All (Free 10) ls → All (Free 10) (on_first c ls)
+    first : eqb c 10 ≡ false → (ls : List (List ℕ)) → AllByRecursion (Free 10) ls → AllByRecursion (Free 10) (on_first c ls)
     first e [] f = ((e, tt), tt)
     first e (l ∷ ls) f = ((e, f.0), f.1)
 
@@ -179,7 +179,7 @@ few Draws u h m = let z : ◌≡◌ {A = ℕ} 0 1 = cc in absurd (omega arith)
 -- lines that lead from a stage to an end
 record Finish (s : Stage) : Type 0 where
   ls : List (List ℕ)
-  free : All (Free 10) ls
+  free : AllByRecursion (Free 10) ls
   e : Stage
   leads : reach ls s ≡ Some e
   ends : may_end e ≡ true

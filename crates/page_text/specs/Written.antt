@@ -1,6 +1,6 @@
 -- the text of a sheet: each of its lines in order, with decimal numbers, and a newline after each
 use Rattle.std.specs.Prelude.{ℕ, ◌^◌, ◌<◌, ◌≤◌, List, [], ◌∷◌, ◌++◌, map, length, codes, decimal}
-use Rattle.std.specs.List.{AllByRecursion as All}
+use Rattle.std.specs.List.{AllByRecursion}
 use Rattle.page.specs.declared.line.Line.{Line}
 use Rattle.page.specs.declared.line.Line.TheVariants.{Align, Binding, Source, Draw}
 use Rattle.page.specs.Sheets.{Sheet}
@@ -31,6 +31,6 @@ LineFits (Draw d) = (d.kind < 2 ^ 64) × (d.source < 2 ^ 64) × (d.offset < 2 ^ 
 
 -- a sheet that the format can say
 pub record Fits (p : Sheet) : Type 0 where
-  pub numbers : All LineFits (sheet_lines p)
+  pub numbers : AllByRecursion LineFits (sheet_lines p)
   pub some : 0 < length p.sources
   pub most : length p.sources ≤ 64

@@ -1,6 +1,6 @@
 -- A place by the rule comes after all the places before it.
 use Rattle.std.proofs.Common.{◌≡◌, ℕ, ◌+◌, ◌^◌, ◌<◌, ◌≤◌, Bool, true, false, cond, ltb, leb, ◌⊎◌, List, [], ◌∷◌, ◌++◌, IfOk, Some, None, Ok, Err, Option, Result, sym, refl, subst, inl, inr, arith, leb-false, leb-true}
-use Rattle.std.specs.List.{AllByRecursion as All}
+use Rattle.std.specs.List.{AllByRecursion}
 use Rattle.command.specs.declared.refusal.Refusal.{Refusal}
 use Rattle.places.specs.declared.current.CurrentEntry.{CurrentEntry}
 use Rattle.places.specs.Laid.{Span, span, Follows, Chained, Laid, EndsAfter, Ends, Apart, Within, Next}
@@ -36,7 +36,7 @@ module _ (room : ℕ) (c : CurrentEntry) (q : Span) (n : Continues room c q) whe
   ends s [] = (refl, refl)
   ends s (t ∷ ts) = ends t ts
 
-  behind : (s : Span) (ts : List Span) → Chained room s ts → EndsAfter c s ts → Behind c s × All (Apart q) (s ∷ ts)
+  behind : (s : Span) (ts : List Span) → Chained room s ts → EndsAfter c s ts → Behind c s × AllByRecursion (Apart q) (s ∷ ts)
   behind s [] h e =
       let b : Behind c s = (omega (arith, e.0), λ k. omega (arith, e.1)) in
       (b, (apart_at room c s q b n, tt))

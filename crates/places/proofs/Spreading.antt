@@ -1,7 +1,7 @@
 -- Places that were laid one after another are apart and inside.
 use Rattle.std.proofs.Common.{◌≡◌, ℕ, ◌+◌, ◌<◌, ◌≤◌, ◌⊎◌, List, [], ◌∷◌, inl, inr, arith}
 use Rattle.std.proofs.ByRecursion.{All-weaker}
-use Rattle.std.specs.List.{AllByRecursion as All}
+use Rattle.std.specs.List.{AllByRecursion}
 use Rattle.places.specs.Laid.{Span, Follows, Chained, Laid, Within, Before, Pairwise, LaidApart}
 
 before_step : (room : ℕ) (s t : Span) → Follows room s t → Before s t
@@ -17,7 +17,7 @@ before_trans s t u a b = (
       omega (arith, a.1 p, b.1 q),
 )
 
-before_all : (room : ℕ) (s : Span) (ts : List Span) → Chained room s ts → All (Before s) ts
+before_all : (room : ℕ) (s : Span) (ts : List Span) → Chained room s ts → AllByRecursion (Before s) ts
 before_all room s [] c = tt
 before_all room s (t ∷ ts) c =
     let b = before_step room s t c.0 in
@@ -31,7 +31,7 @@ within_step : (room : ℕ) (s t : Span) → Follows room s t → t.size ≤ room
 within_step room s t (inl f) z = omega (arith, f.1, f.2)
 within_step room s t (inr f) z = omega (arith, f.1, z)
 
-within_all : (room : ℕ) (s : Span) (ts : List Span) → Chained room s ts → All (λ x. x.size ≤ room) ts → All (Within room) ts
+within_all : (room : ℕ) (s : Span) (ts : List Span) → Chained room s ts → AllByRecursion (λ x. x.size ≤ room) ts → AllByRecursion (Within room) ts
 within_all room s [] c z = tt
 within_all room s (t ∷ ts) c z = (within_step room s t c.0 z.0, within_all room t ts c.1 z.1)
 

@@ -1,6 +1,6 @@
 -- Places handed out one after another, as a relation between sizes and places.
 use Rattle.std.specs.Prelude.{◌≡◌, ℕ, ◌+◌, ◌<◌, ◌≤◌, ◌⊎◌, List, [], ◌∷◌, ◌++◌, Some, None, Option}
-use Rattle.std.specs.List.{AllByRecursion as All}
+use Rattle.std.specs.List.{AllByRecursion}
 use Rattle.places.specs.declared.current.CurrentEntry.{CurrentEntry}
 
 -- a place and the bytes that stand there
@@ -48,7 +48,7 @@ Within room s = s.place.offset + s.size ≤ room
 pub record Next (room : ℕ) (spans : List Span) (current : Option CurrentEntry) (s : Span) : Type 0 where
   pub laid : Laid room (spans ++ s ∷ [])
   pub ends : Ends current (spans ++ s ∷ [])
-  pub apart : All (Apart s) spans
+  pub apart : AllByRecursion (Apart s) spans
   pub within : s.size ≤ room → Within room s
 
 -- s stands in an earlier buffer than t, or ends before t in the same one
@@ -57,8 +57,8 @@ Before s t = (s.place.index ≤ t.place.index) × (s.place.index ≡ t.place.ind
 
 abbrev pub Pairwise : {X : Type 0} → (X → X → Type 0) → List X → Type 0
 Pairwise R [] = Unit {0}
-Pairwise R (x ∷ xs) = All (R x) xs × Pairwise R xs
+Pairwise R (x ∷ xs) = AllByRecursion (R x) xs × Pairwise R xs
 
 -- Places that were laid one after another share no byte, and each lies inside its buffer where its size does.
 abbrev pub LaidApart : Type 0
-LaidApart = (room : ℕ) (spans : List Span) → Laid room spans → All (λ s. s.size ≤ room) spans → Pairwise Before spans × All (Within room) spans
+LaidApart = (room : ℕ) (spans : List Span) → Laid room spans → AllByRecursion (λ s. s.size ≤ room) spans → Pairwise Before spans × AllByRecursion (Within room) spans

@@ -3,7 +3,7 @@ use Rattle.std.proofs.Common.{◌≡◌, ℕ, ◌+◌, ◌*◌, ◌<◌, ◌≤�
 use lib.ListN.{get_or-map}
 use Rattle.std.proofs.ByRecursion.{All-weaker}
 use Rattle.std.proofs.lemmas.List.{length-map, length-take-le, length-append, length-drop, take_at}
-use Rattle.std.specs.List.{AllByRecursion as All}
+use Rattle.std.specs.List.{AllByRecursion}
 use Rattle.places.proofs.Spreading.{laid_apart}
 use Rattle.places.specs.Laid.{Span, span, Chained, Follows, Laid}
 use Rattle.places.specs.Placed.{entry, following, placed, past}
@@ -97,7 +97,7 @@ module _ (block room : ℕ) where
   metadata_laid (b ∷ bs) = (refl, refl, metadata_chained bs (span (entry 0 0) (bytes_of b)) (next_of block None b))
 
   -- every place lies in one of the blocks and buffers that were counted
-  reached : (bs : List DrawIndirectValidationBatch) (s m : Option CurrentEntry) → All (λ b. (b.staging.index < following (ending block bs s)) × (b.metadata.index < following (ending room bs m))) (planned block room bs s m)
+  reached : (bs : List DrawIndirectValidationBatch) (s m : Option CurrentEntry) → AllByRecursion (λ b. (b.staging.index < following (ending block bs s)) × (b.metadata.index < following (ending room bs m))) (planned block room bs s m)
   unfolding planned ending
   reached [] s m = tt
   reached (b ∷ bs) s m = (
@@ -105,15 +105,15 @@ module _ (block room : ℕ) where
     reached bs (next_of block s b) (next_of room m b),
   )
 
-  sizes_small : (most : ℕ) (bs : List DrawIndirectValidationBatch) → room ≤ most → Bounded room bs → (s m : Option CurrentEntry) → (f : DrawIndirectValidationBatch → CurrentEntry) → All (λ x. x.size ≤ most) (map (λ b. span (f b) (bytes_of b)) (planned block room bs s m))
+  sizes_small : (most : ℕ) (bs : List DrawIndirectValidationBatch) → room ≤ most → Bounded room bs → (s m : Option CurrentEntry) → (f : DrawIndirectValidationBatch → CurrentEntry) → AllByRecursion (λ x. x.size ≤ most) (map (λ b. span (f b) (bytes_of b)) (planned block room bs s m))
   unfolding planned
   sizes_small most [] le a s m f = tt
   sizes_small most (b ∷ bs) le a s m f = (omega (arith, a.0, le), sizes_small most bs le a.1 (next_of block s b) (next_of room m b) f)
 
-spread : (room : ℕ) (spans : List Span) → Laid room spans → All (λ s. s.size ≤ room) spans → Spread room spans
+spread : (room : ℕ) (spans : List Span) → Laid room spans → AllByRecursion (λ s. s.size ≤ room) spans → Spread room spans
 spread room spans l z = let a = laid_apart room spans l z in record { laid = l; apart = a.0; within = a.1 }
 
-pub batches_known : (t : Terms) (ks : List BatchKey) (ws : List Wanted) (ds : List IndirectDraw) → Paired (Recorded t ks) ws ds → All (λ d. d.batch < length ks) ds
+pub batches_known : (t : Terms) (ks : List BatchKey) (ws : List Wanted) (ds : List IndirectDraw) → Paired (Recorded t ks) ws ds → AllByRecursion (λ d. d.batch < length ks) ds
 batches_known t ks [] [] p = tt
 batches_known t ks [] (d ∷ ds) p = absurd p
 batches_known t ks (w ∷ ws) [] p = tt

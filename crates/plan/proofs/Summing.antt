@@ -2,7 +2,7 @@
 use Rattle.std.proofs.Common.{◌≡◌, ℕ, zero, suc, ◌+◌, ◌*◌, ◌<◌, ◌≤◌, Bool, true, false, cond, eqb, ◌⊎◌, List, [], ◌∷◌, map, length, get_or, sym, refl, ap, ◌∙◌, inl, inr, ⊎_elim, arith, eq-eqb, ne_eqb, eqb-true}
 use borrow.Author.Tests.{eqb-false}
 use Rattle.std.proofs.lemmas.Bool.{cases_eq}
-use Rattle.std.specs.List.{AllByRecursion as All}
+use Rattle.std.specs.List.{AllByRecursion}
 use Rattle.batcher.specs.Holds.{tally}
 use Rattle.batcher.specs.Records.{no_batch}
 use Rattle.batcher.specs.declared.records.DrawIndirectValidationBatch.{DrawIndirectValidationBatch}
@@ -39,7 +39,7 @@ one_inside (suc n) b bs h = ⊎_elim
     (cases_eq b.staging.index n)
 
 -- every batch is staged in one of the blocks
-pub all_total : (n : ℕ) (bs : List DrawIndirectValidationBatch) → All (λ b. b.staging.index < n) bs → all_bytes n bs ≡ total bs
+pub all_total : (n : ℕ) (bs : List DrawIndirectValidationBatch) → AllByRecursion (λ b. b.staging.index < n) bs → all_bytes n bs ≡ total bs
 all_total n [] a = none_bytes n
 all_total n (b ∷ bs) a = omega (arith, one_inside n b bs a.0, all_total n bs a.1)
 
@@ -87,12 +87,12 @@ sum_one k (suc n) h = ⊎_elim
     (λ (e : k ≡ n → ⊥). let q : eqb k n ≡ false = ne_eqb k n e in simp q (omega (arith, sum_one k n (omega (arith, h, e)))))
     (cases_eq k n)
 
-sum_tallies : (n : ℕ) (ds : List IndirectDraw) → All (λ d. d.batch < n) ds → sum_up (λ i. tally i ds * 16) n ≡ length ds * 16
+sum_tallies : (n : ℕ) (ds : List IndirectDraw) → AllByRecursion (λ d. d.batch < n) ds → sum_up (λ i. tally i ds * 16) n ≡ length ds * 16
 sum_tallies n [] a = sum_none n
 sum_tallies n (d ∷ ds) a =
     omega (arith, sum_add (λ i. cond (eqb d.batch i) 1 0) (λ i. tally i ds) n, sum_one d.batch n a.0, sum_tallies n ds a.1)
 
 -- each draw is an entry of one batch
-pub total_draws : (bs : List DrawIndirectValidationBatch) (ds : List IndirectDraw) → ((i : ℕ) → i < length bs → (get_or bs i no_batch).count ≡ tally i ds) → All (λ d. d.batch < length bs) ds → total bs ≡ length ds * 16
+pub total_draws : (bs : List DrawIndirectValidationBatch) (ds : List IndirectDraw) → ((i : ℕ) → i < length bs → (get_or bs i no_batch).count ≡ tally i ds) → AllByRecursion (λ d. d.batch < length bs) ds → total bs ≡ length ds * 16
 total_draws bs ds c a =
     total_sum bs ∙ sum_same (λ i. (get_or bs i no_batch).count * 16) (λ i. tally i ds * 16) (length bs) (λ i l. ap (λ (n : ℕ). n * 16) (c i l)) ∙ sum_tallies (length bs) ds a

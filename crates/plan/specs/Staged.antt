@@ -1,6 +1,6 @@
 -- What a plan is for.
 use Rattle.std.specs.Prelude.{◌≡◌, ℕ, zero, suc, ◌+◌, ◌*◌, ◌<◌, ◌≤◌, cond, List, [], ◌∷◌, map, length, ◌==◌}
-use Rattle.std.specs.List.{AllByRecursion as All}
+use Rattle.std.specs.List.{AllByRecursion}
 use Rattle.places.specs.Laid.{Span, span, Before, Pairwise, Within, Laid}
 use Rattle.batcher.specs.declared.records.DrawIndirectValidationBatch.{DrawIndirectValidationBatch}
 use Rattle.plan.specs.Planned.{bytes_of}
@@ -25,11 +25,11 @@ all_bytes (suc n) bs = block_bytes n bs + all_bytes n bs
 pub record Spread (room : ℕ) (spans : List Span) : Type 0 where
   pub laid : Laid room spans
   pub apart : Pairwise Before spans
-  pub within : All (Within room) spans
+  pub within : AllByRecursion (Within room) spans
 
 -- a frame's batches in `blocks` staging blocks and `buffers` metadata buffers
 pub record Staged (block room draws blocks buffers : ℕ) (bs : List DrawIndirectValidationBatch) : Type 0 where
   pub staging : Spread block (map staging_span bs)
   pub metadata : Spread room (map metadata_span bs)
-  pub reached : All (λ b. (b.staging.index < blocks) × (b.metadata.index < buffers)) bs
+  pub reached : AllByRecursion (λ b. (b.staging.index < blocks) × (b.metadata.index < buffers)) bs
   pub whole : all_bytes blocks bs ≡ draws * 16

@@ -2,7 +2,7 @@
 use Rattle.std.proofs.Common.{◌≡◌, ℕ, ◌+◌, ◌<◌, ◌≤◌, Bool, true, false, cond, ltb, leb, List, [], ◌∷◌, ◌++◌, map, length, get_or, take, drop, set, replicate, Some, None, Ok, Err, Option, Result, sym, refl, ap, ◌∙◌, subst, append_assoc, append-nil, arith, leb-false}
 use Rattle.std.proofs.lemmas.List.{length-set, length-take-le, length-replicate, map_push, take_more_set}
 use Rattle.std.proofs.lemmas.Bool.Decides.{nat_tests}
-use Rattle.std.specs.List.{AllByRecursion as All}
+use Rattle.std.specs.List.{AllByRecursion}
 use Rattle.batcher.proofs.Keeping.{granted_ok}
 use Rattle.batcher.specs.Holds.{Held, Holds}
 use Rattle.batcher.specs.Judged.{Batching, Terms, Wanted, argument_answer, by_size, by_family, draws_after, joined, judged_wanted, outcome, place_of, prepared, table_checks, wanted}
@@ -130,7 +130,7 @@ told_frame s t block =
           ∙ ap (λ (l : List DrawIndirectValidationBatch). answers_text (answers_of t ss fresh ls) ++ batch_lines 0 (take f.batching.draws f.draws) l) (front_planned block t.room n f.batches h.opened);
       each = as_many t ss fresh ls;
       places = places_of t ss fresh ls;
-      owned = subst (λ (k : ℕ). All (λ d. d.batch < k) (take f.batching.draws f.draws)) (Rattle.std.proofs.lemmas.List.length-map (planned block t.room bs None None) Rattle.batcher.specs.Holds.key_of) (batches_known t (map Rattle.batcher.specs.Holds.key_of (planned block t.room bs None None)) sound.0 (take f.batching.draws f.draws) held.recorded);
+      owned = subst (λ (k : ℕ). AllByRecursion (λ d. d.batch < k) (take f.batching.draws f.draws)) (Rattle.std.proofs.lemmas.List.length-map (planned block t.room bs None None) Rattle.batcher.specs.Holds.key_of) (batches_known t (map Rattle.batcher.specs.Holds.key_of (planned block t.room bs None None)) sound.0 (take f.batching.draws f.draws) held.recorded);
       counts = held.counts;
     }
 

@@ -1,6 +1,6 @@
 -- What is printed of a sheet, in the words of the sheet.
 use Rattle.std.specs.Prelude.{◌≡◌, ℕ, ◌<◌, true, List, [], ◌∷◌, ◌++◌, map, length, Ok, Err, Result, slice_index_or}
-use Rattle.std.specs.List.{AllByRecursion as All}
+use Rattle.std.specs.List.{AllByRecursion}
 use Rattle.batcher.specs.Holds.{tally}
 use Rattle.batcher.specs.Records.{no_batch}
 use Rattle.batcher.specs.declared.records.DrawIndirectValidationBatch.{DrawIndirectValidationBatch}
@@ -34,7 +34,7 @@ pub record Told (s : Sheet) (text : List ℕ) : Type 0 where
   pub lines : text ≡ answers_text answers ++ batch_lines 0 draws batches
   pub each : length answers ≡ length s.draws
   pub places : map place_of_draw draws ≡ places_in answers
-  pub owned : All (λ d. d.batch < length batches) draws
+  pub owned : AllByRecursion (λ d. d.batch < length batches) draws
   pub counts : (k : ℕ) → k < length batches → (slice_index_or batches k no_batch).count ≡ tally k draws
 
 -- the sheet that a text is, with settings that fit one another, is told whole
