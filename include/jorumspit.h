@@ -1,6 +1,6 @@
 /* jorumspit.h: limits, windows, entries, places and frames of validated indirect draws, for a host in C or Rust.
  *
- * What each function returns and writes is stated by its contract in crates/exports/src and crates/frame_exports/src,
+ * What each function returns and writes is stated by its contract in crates/exports_c/src and crates/frame_exports_c/src,
  * and proved, on every input that keeps the rules of the next paragraph. What this page says of memory, pointers and
  * threads is not proved. jorumspit_frame and jorumspit_sheet hold two tables on the caller's stack.
  *
@@ -17,9 +17,10 @@
  *   Numbers may be any: a number that means nothing is refused, never trusted.
  *
  * Linking
- *   rt staticlib exports && rt staticlib frame_exports
- *   cc -Iinclude examples/c/main.c target/staticlib/libexports.a target/staticlib/libframe_exports.a KIT/lib/librattle_c.a
- *   where KIT is the folder of the Rattle kit. examples/c/run does all of it.
+ *   examples/c/run builds target/staticlib/libexports.a and target/staticlib/libframe_exports.a: each is what `rt lib`
+ *   makes in crates/exports_c or crates/frame_exports_c, under its own name. Then
+ *   cc -Iinclude examples/c/main.c target/staticlib/libexports.a target/staticlib/libframe_exports.a KIT/c/liblibc_c.a
+ *   where KIT is the folder of the Rattle kit, in which the file that `rt doc` names stands.
  *
  * From Rust, declare the same functions in an `unsafe extern "C"` block: a pointer with a length is
  * `*const T, usize` or `*mut T, usize`, and each struct below is a `#[repr(C)]` struct of the same fields.
