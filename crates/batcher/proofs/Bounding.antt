@@ -1,16 +1,16 @@
 -- No batch has more entries than a buffer holds.
-use Rattle.std.proofs.Common.{◌≡◌, ℕ, ◌+◌, ◌*◌, ◌<◌, ◌≤◌, Bool, true, false, cond, eqb, List, [], ◌∷◌, map, length, get_or, Option, sym, refl, ap, ◌∙◌, arith, eqb-true}
+use Rattle.std.proofs.Common.{◌≡◌, ℕ, ◌+◌, ◌*◌, ◌≤◌, Bool, true, false, cond, eqb, List, [], ◌∷◌, map, get_or, Option, sym, refl, ap, ◌∙◌, arith, eqb-true}
 use Rattle.std.proofs.ByRecursion.{All-from_get_or}
 use Rattle.std.specs.List.{AllByRecursion}
 use Rattle.command.specs.declared.family.DrawCommandFamily.{DrawCommandFamily}
 use Rattle.places.proofs.Spreading.{laid_apart}
-use Rattle.places.specs.Laid.{Span, span, Before, Pairwise, Within}
+use Rattle.places.specs.Laid.{Span, Before, Pairwise, Within}
 use Rattle.places.specs.declared.current.CurrentEntry.{CurrentEntry}
 use Rattle.batcher.specs.declared.records.BatchKey.{BatchKey}
 use Rattle.batcher.specs.declared.records.DrawIndirectValidationBatch.{DrawIndirectValidationBatch}
 use Rattle.batcher.specs.declared.records.IndirectDraw.{IndirectDraw}
 use Rattle.batcher.specs.Holds.{Paired, Recorded, key_of, span_of, tally, Held, Bounded}
-use Rattle.batcher.specs.Judged.{Terms, Wanted, key_at}
+use Rattle.batcher.specs.Judged.{Terms, Wanted}
 use Rattle.batcher.specs.Records.{no_key, no_batch}
 
 -- a draw of batch i lies in buffer x, at lo or above

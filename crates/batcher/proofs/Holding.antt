@@ -1,22 +1,21 @@
 -- An accepted draw keeps what the tables hold, and so does a refused one.
-use Rattle.std.proofs.Common.{◌≡◌, ℕ, ◌+◌, ◌-◌, ◌^◌, ◌<◌, ◌≤◌, Bool, true, false, cond, eqb, ltb, leb, ◌⊎◌, List, [], ◌∷◌, ◌++◌, map, length, get_or, take, set, Some, None, Ok, Err, Option, Result, sym, refl, ap, ◌∙◌, subst, inl, inr, ⊎_elim, add-zero, arith, ltb-false, eq-eqb, ne_eqb, leb-false}
+use Rattle.std.proofs.Common.{◌≡◌, ℕ, ◌+◌, ◌<◌, ◌≤◌, true, false, eqb, List, [], ◌∷◌, ◌++◌, map, length, get_or, set, Some, Option, sym, refl, ap, ◌∙◌, subst, ⊎_elim, add-zero, arith, eq-eqb, ne_eqb}
 use lib.ListN.{get_or-map}
-use lib.Seq.{take-set-lt, map-set_same}
-use Rattle.std.proofs.lemmas.List.{length-set, length_push, length-map, get_or_append_left, get_or_push, get_or-set_same, get_or-set_other, map_push, take_more_set, length-take-le, get_or-take}
+use lib.Seq.{map-set_same}
+use Rattle.std.proofs.lemmas.List.{length-set, length_push, length-map, get_or_append_left, get_or_push, get_or-set_same, get_or-set_other, map_push}
 use Rattle.std.proofs.lemmas.Bool.{cases_eq}
 use Rattle.std.specs.List.{AllByRecursion}
 use Rattle.places.proofs.Laying.{next_placed}
-use Rattle.places.specs.Laid.{Span, span, Laid, Ends, Next}
+use Rattle.places.specs.Laid.{span, Laid, Ends, Next}
 use Rattle.places.specs.Placed.{past}
 use Rattle.places.specs.declared.current.CurrentEntry.{CurrentEntry}
 use Rattle.batcher.specs.declared.records.BatchKey.{BatchKey}
 use Rattle.batcher.specs.declared.records.DrawIndirectValidationBatch.{DrawIndirectValidationBatch}
 use Rattle.batcher.specs.declared.records.IndirectDraw.{IndirectDraw}
-use Rattle.batcher.specs.Holds.{Paired, key_of, Recorded, span_of, tally, Ranked, Opens, Different, Held, Holds}
+use Rattle.batcher.specs.Holds.{key_of, Recorded, span_of, tally, Held}
 use Rattle.batcher.specs.Judged.{Terms, Wanted, key_at, draw_at, place_for, opened, counted}
-use Rattle.batcher.specs.Keys.{same_key, has_key, found, Finds, First}
+use Rattle.batcher.specs.Keys.{same_key, has_key, First}
 use Rattle.batcher.specs.Records.{no_key, no_batch}
-use Rattle.batcher.proofs.Finding.{finds}
 use Rattle.batcher.proofs.Pushing.{paired_push, paired_weaker, different_push, same_key_lem, tally_push, ranked_push, opens_old, opens_new, tally_none}
 
 all_keys : (k : BatchKey) (bs : List DrawIndirectValidationBatch) → AllByRecursion (λ b. has_key k b ≡ false) bs → AllByRecursion (λ j. same_key j k ≡ false) (map key_of bs)

@@ -1,10 +1,10 @@
 -- Whatever a request answers, the tables hold what was accepted.
-use Rattle.std.proofs.Common.{◌≡◌, ℕ, ◌+◌, ◌-◌, ◌^◌, ◌<◌, ◌≤◌, Bool, true, false, cond, ltb, leb, List, [], ◌∷◌, ◌++◌, length, get_or, take, set, Some, None, Ok, Err, Option, Result, sym, refl, ap, ◌∙◌, subst, arith, ltb-false, leb-false, MatchResult}
+use Rattle.std.proofs.Common.{◌≡◌, ℕ, ◌-◌, ◌^◌, ◌<◌, Bool, true, false, cond, leb, List, [], ◌∷◌, ◌++◌, length, get_or, take, set, Some, None, Ok, Err, Option, Result, sym, refl, ap, ◌∙◌, subst, arith, leb-false, MatchResult}
 use lib.Seq.{take-set-lt}
 use Rattle.std.proofs.lemmas.List.{length-set, take_more_set, length-take-le, get_or-take}
 use Rattle.std.specs.List.{AllByRecursion}
 use Rattle.command.proofs.Checking.{first_ok, then_ok}
-use Rattle.command.specs.Checks.{first, and_then}
+use Rattle.command.specs.Checks.{first}
 use Rattle.command.specs.Family.{family_of}
 use Rattle.command.specs.declared.family.DrawCommandFamily.{DrawCommandFamily}
 use Rattle.command.specs.declared.refusal.Refusal.{Refusal}
@@ -16,7 +16,7 @@ use Rattle.batcher.specs.declared.records.DrawIndirectValidationBatch.{DrawIndir
 use Rattle.batcher.specs.declared.records.DrawRequest.{DrawRequest}
 use Rattle.batcher.specs.declared.records.IndirectDraw.{IndirectDraw}
 use Rattle.batcher.specs.Holds.{Held, Holds, asked, asked_of}
-use Rattle.batcher.specs.Judged.{Terms, Batching, Wanted, wanted, prepared, chosen, counted, opened, key_at, draw_at, place_for, joined, argument_answer, table_checks, judged_wanted, by_size, by_family, granted, outcome, place_of, draws_after, batches_after, batching_after}
+use Rattle.batcher.specs.Judged.{Terms, Batching, Wanted, wanted, prepared, chosen, counted, opened, draw_at, place_for, joined, argument_answer, table_checks, judged_wanted, by_size, by_family, granted, outcome, place_of, draws_after, batches_after, batching_after}
 use Rattle.batcher.specs.Keys.{found, Finds, First}
 use Rattle.batcher.specs.Records.{no_batch}
 use Rattle.batcher.proofs.Finding.{finds}

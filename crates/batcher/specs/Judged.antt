@@ -3,7 +3,6 @@ use Rattle.std.specs.Prelude.{ℕ, ◌+◌, ◌-◌, ◌%◌, ◌^◌, Bool, tru
 use Rattle.command.specs.Checks.{first, and_then}
 use Rattle.command.specs.Family.{family_of, is_indexed, src_stride, dst_stride}
 use Rattle.command.specs.declared.family.DrawCommandFamily.{DrawCommandFamily}
-use Rattle.command.specs.declared.family.DrawCommandFamily.TheVariants.{Draw, DrawIndexed}
 use Rattle.command.specs.declared.refusal.Refusal.{Refusal}
 use Rattle.command.specs.declared.refusal.Refusal.TheVariants.{UnknownKind, NoSuchSource, UnalignedIndirectBufferOffset, IndirectBufferOverrun, TableFull, NoBuffer}
 use Rattle.command.specs.declared.settings.Settings.{Settings}

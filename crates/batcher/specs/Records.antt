@@ -1,5 +1,4 @@
 -- Records that stand for nothing yet.
-use Rattle.std.specs.Prelude.{ℕ}
 use Rattle.command.specs.declared.family.DrawCommandFamily.TheVariants.{Draw}
 use Rattle.entry.specs.declared.metadata.MetadataEntry.{MetadataEntry}
 use Rattle.places.specs.Placed.{entry}

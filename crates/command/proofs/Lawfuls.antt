@@ -1,5 +1,5 @@
 -- What lawful settings and sizes, and the sizes by kind, say as facts about numbers.
-use Rattle.std.proofs.Common.{◌≡◌, ℕ, ◌+◌, ◌*◌, ◌%◌, ◌^◌, ◌<◌, ◌≤◌, true, arith}
+use Rattle.std.proofs.Common.{◌≡◌, ℕ, ◌^◌, ◌<◌, ◌≤◌, true, arith}
 use Rattle.std.proofs.lemmas.Bool.Decides.{nat_tests}
 use Rattle.command.specs.Family.{src_stride, dst_stride}
 use Rattle.command.specs.declared.family.DrawCommandFamily.{DrawCommandFamily}

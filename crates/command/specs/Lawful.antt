@@ -1,5 +1,5 @@
 -- Which settings fit one another.
-use Rattle.std.specs.Prelude.{ℕ, ◌+◌, ◌*◌, ◌%◌, ◌^◌, Bool, true, false, ◌&&◌, ◌||◌, ◌==◌, nat_le, nat_lt}
+use Rattle.std.specs.Prelude.{ℕ, ◌+◌, ◌*◌, ◌%◌, ◌^◌, Bool, ◌&&◌, ◌||◌, ◌==◌, nat_le, nat_lt}
 
 abbrev pub lawful_alignment : ℕ → Bool
 lawful_alignment a = a == 32 || (a == 64 || (a == 128 || a == 256))

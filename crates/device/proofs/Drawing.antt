@@ -1,5 +1,5 @@
 -- The words that an entry writes.
-use Rattle.std.proofs.Common.{◌≡◌, ℕ, ◌+◌, ◌/◌, ◌≤◌, Bool, true, false, cond, leb, List, [], ◌∷◌, length, get_or, take, drop, replicate, Some, None, unwrap_or, sym, refl, ap, ◌∙◌, arith, length-drop, length-take}
+use Rattle.std.proofs.Common.{◌≡◌, ℕ, ◌+◌, ◌/◌, ◌≤◌, Bool, false, leb, List, [], ◌∷◌, length, get_or, take, drop, replicate, Some, None, unwrap_or, refl, ◌∙◌, arith, length-drop, length-take}
 use lib.Seq.{sets, length-sets}
 use Rattle.std.proofs.lemmas.List.{length-replicate}
 use Rattle.std.proofs.lemmas.Bool.{cond_both, leb-true, or_parts}
@@ -7,7 +7,7 @@ use Rattle.command.specs.Family.{dst_stride}
 use Rattle.command.specs.declared.family.DrawCommandFamily.{DrawCommandFamily}
 use Rattle.command.specs.declared.family.DrawCommandFamily.TheVariants.{Draw, DrawIndexed}
 use Rattle.entry.specs.Entries.{unpacked}
-use Rattle.entry.specs.Verdicts.{checked, judged, kept, first_instance_at, read_arguments, verdict, word_count, on_words}
+use Rattle.entry.specs.Verdicts.{checked, judged, kept, first_instance_at, word_count, on_words}
 use Rattle.entry.specs.declared.metadata.MetadataEntry.{MetadataEntry}
 use Rattle.device.specs.Dispatches.{place_words, place_at, drawn, ran}
 use Rattle.device.specs.Laws.{between, in_places}

@@ -1,22 +1,20 @@
 -- What a command leaves.
-use Rattle.std.proofs.Common.{◌≡◌, ℕ, ◌+◌, ◌*◌, ◌/◌, ◌≤◌, min, Bool, true, false, cond, not, ◌&&◌, eqb, List, [], ◌∷◌, map, length, get_or, take, drop, set, sym, refl, ap, ◌∙◌, ⊎_elim, arith, length-set, length-take}
-use lib.Seq.{sets, length-sets}
-use Rattle.std.proofs.lemmas.List.{get_or-set_other, get_or-set_same, set_past, set-get_or}
-use Rattle.std.proofs.lemmas.Bool.{both_ways, cases_eq, cases_lt, cases_Bool, cond-true, cond-false, eqb-false, eqb-true, eq-eqb}
-use Rattle.std.proofs.lemmas.Bool.Decides.{nat_tests}
+use Rattle.std.proofs.Common.{◌≡◌, ℕ, ◌/◌, ◌≤◌, Bool, true, false, ◌&&◌, eqb, List, length, get_or, take, drop, set, sym, refl, ap, ◌∙◌, ⊎_elim, arith, length-set, length-take}
+use lib.Seq.{length-sets}
+use Rattle.std.proofs.lemmas.List.{get_or-set_other, get_or-set_same, set_past}
+use Rattle.std.proofs.lemmas.Bool.{both_ways, cases_eq, cases_lt, cases_Bool, cond-true, cond-false, eqb-false, eq-eqb}
 use Rattle.device.specs.declared.buffers.BufferRef.{BufferRef}
 use Rattle.device.specs.declared.buffers.BufferRef.TheVariants as buffer
 use Rattle.device.specs.declared.buffers.BufferUses.{BufferUses}
-use Rattle.device.specs.declared.commands.BufferBarrier.{BufferBarrier}
 use Rattle.device.specs.declared.commands.BufferCopy.{BufferCopy}
 use Rattle.device.specs.declared.commands.Command.{Command}
 use Rattle.device.specs.declared.commands.Command.TheVariants.{Transition, Copy, Begin, Dispatch, End}
 use Rattle.device.specs.declared.commands.ValidationDispatch.{ValidationDispatch}
 use Rattle.device.specs.Calls.{block_of, block_words}
 use Rattle.device.specs.Dispatches.{dispatched, entries_of, pool_words, window}
-use Rattle.device.specs.Laws.{Leaves, LeavesAll, MarkStays, MarkNeverFalls, answers, alters_block, alters_buffer, is_block, is_pool, writes}
+use Rattle.device.specs.Laws.{Leaves, answers, is_block, is_pool}
 use Rattle.device.specs.Meaning.{Meaning, Holdings, Buffer, Block, no_buffer, no_block, with_mark}
-use Rattle.device.specs.Plays.{carried, copied, in_pass, lawful, lies, obeyed, pass_after, play_all, played, put_state, put_words, with_state, with_words}
+use Rattle.device.specs.Plays.{copied, lawful, obeyed, played, put_state, put_words, with_state, with_words}
 use Rattle.device.proofs.Drawing.{ran_length, ran_outside}
 use Rattle.device.proofs.Runs.{get_d_sets_outside}
 

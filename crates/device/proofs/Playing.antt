@@ -1,10 +1,10 @@
 -- Playing a list of commands, piece by piece; the mark.
-use Rattle.std.proofs.Common.{◌≡◌, ℕ, ◌+◌, ◌<◌, Bool, true, false, cond, List, [], ◌∷◌, ◌++◌, length, get_or, take, sym, refl, ap, ◌∙◌, ⊎_elim}
+use Rattle.std.proofs.Common.{◌≡◌, ℕ, ◌+◌, ◌<◌, true, List, [], ◌∷◌, ◌++◌, length, get_or, take, refl, ap, ◌∙◌}
 use Rattle.std.proofs.lemmas.List.{take_more}
-use Rattle.std.proofs.lemmas.Bool.{cases_Bool, cond_both}
+use Rattle.std.proofs.lemmas.Bool.{cond_both}
 use Rattle.device.specs.declared.commands.Command.{Command}
-use Rattle.device.specs.Calls.{can_fill, can_make, can_open, extended, filled, grown, has_word, made, opened, released, replaced, stored, written}
-use Rattle.device.specs.Laws.{LeavesAll, MarkStays, MarkNeverFalls, answers}
+use Rattle.device.specs.Calls.{can_fill, can_make, can_open, extended, grown, has_word, replaced, written}
+use Rattle.device.specs.Laws.{LeavesAll, MarkNeverFalls}
 use Rattle.device.specs.Meaning.{Meaning, with_holdings, with_mark}
 use Rattle.device.specs.Plays.{lawful, obeyed, play_all, played}
 use Rattle.device.proofs.Leaving.{leaves}

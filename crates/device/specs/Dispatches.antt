@@ -1,16 +1,15 @@
 -- A dispatch: when it is lawful, and what a lawful one writes.
-use Rattle.std.specs.Prelude.{ℕ, zero, suc, ◌+◌, ◌*◌, ◌/◌, ◌%◌, min, Bool, true, false, cond, ◌&&◌, List, [], ◌∷◌, length, get_or, take, drop, Some, None, Option, ◌==◌, nat_le, nat_lt, slice_index_or}
+use Rattle.std.specs.Prelude.{ℕ, zero, suc, ◌+◌, ◌*◌, ◌/◌, ◌%◌, min, Bool, true, cond, ◌&&◌, List, [], ◌∷◌, length, get_or, take, drop, ◌==◌, nat_le, nat_lt, slice_index_or}
 use Rattle.std.proofs.lemmas.List.Edits.{sets}
 use Rattle.std.specs.Option.{unwrap_or}
 use Rattle.command.specs.Family.{dst_stride}
-use Rattle.command.specs.declared.family.DrawCommandFamily.{DrawCommandFamily}
 use Rattle.entry.specs.Entries.{entry_from, unpacked}
 use Rattle.entry.specs.Verdicts.{word_count, verdict}
 use Rattle.entry.specs.declared.metadata.MetadataEntry.{MetadataEntry}
 use Rattle.device.specs.declared.buffers.BufferUses.{BufferUses}
 use Rattle.device.specs.declared.buffers.BufferUses.TheVariants.{StorageReadOnly, StorageReadWrite}
 use Rattle.device.specs.declared.commands.ValidationDispatch.{ValidationDispatch}
-use Rattle.device.specs.Meaning.{Holdings, Buffer, Source, no_buffer, no_source}
+use Rattle.device.specs.Meaning.{Holdings, Source, no_buffer, no_source}
 use Rattle.device.specs.Uses.{same_use}
 
 -- a pool buffer that is there, in a given use

@@ -9,7 +9,7 @@ use Rattle.device.specs.declared.commands.Command.{Command}
 use Rattle.device.specs.declared.commands.Command.TheVariants.{Transition, Copy, Begin, Dispatch, End}
 use Rattle.device.specs.declared.properties.Properties.{Properties}
 use Rattle.device.specs.Calls.{made, opened, filled, released, stored}
-use Rattle.device.specs.Dispatches.{entries_of, place_at, place_words, pool_words}
+use Rattle.device.specs.Dispatches.{entries_of, place_at, place_words}
 use Rattle.device.specs.Meaning.{Meaning, Holdings, Source, Buffer, Block, no_buffer, no_block, with_mark}
 use Rattle.device.specs.Plays.{lawful, played}
 

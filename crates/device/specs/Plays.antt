@@ -10,7 +10,7 @@ use Rattle.device.specs.declared.commands.Command.{Command}
 use Rattle.device.specs.declared.commands.Command.TheVariants.{Transition, Copy, Begin, Dispatch, End}
 use Rattle.device.specs.Calls.{block_in, block_words, block_of}
 use Rattle.device.specs.Dispatches.{pool_in, pool_words, dispatch_lies, dispatched}
-use Rattle.device.specs.Meaning.{Meaning, Holdings, Buffer, no_buffer, no_block, with_pool, with_blocks, with_mark}
+use Rattle.device.specs.Meaning.{Meaning, Holdings, Buffer, no_buffer, with_pool, with_blocks, with_mark}
 
 -- a buffer in a given use
 abbrev pub is_in : BufferRef → BufferUses → Holdings → Bool

@@ -1,15 +1,15 @@
 -- Staging blocks by their bookkeeping.
-use Rattle.std.proofs.Common.{◌≡◌, ℕ, zero, suc, ◌+◌, ◌-◌, ◌*◌, ◌/◌, ◌%◌, ◌^◌, ◌<◌, ◌≤◌, Bool, true, false, cond, ◌&&◌, eqb, ltb, List, [], ◌∷◌, ◌++◌, length, get_or, take, drop, set, sym, refl, ap, ◌∙◌, le_of_suc-le-suc, not-suc-le-zero, arith}
+use Rattle.std.proofs.Common.{◌≡◌, ℕ, zero, suc, ◌+◌, ◌-◌, ◌/◌, ◌%◌, ◌<◌, ◌≤◌, true, ltb, List, [], ◌∷◌, length, get_or, drop, set, refl, ap, ◌∙◌, le_of_suc-le-suc, not-suc-le-zero, arith}
 use lib.Seq.{sets}
-use Rattle.std.proofs.lemmas.List.{get_or-drop, get_or-take, length-set}
-use Rattle.std.proofs.lemmas.Bool.{and_from, and_parts, eqb-true, eq-eqb, ltb-true, lt-ltb}
-use Rattle.device.specs.Calls.{block_bytes, block_of}
+use Rattle.std.proofs.lemmas.List.{get_or-drop, get_or-take}
+use Rattle.std.proofs.lemmas.Bool.{and_parts, eqb-true, ltb-true}
+use Rattle.device.specs.Calls.{block_bytes}
 use Rattle.device.specs.Meaning.{Block, no_block}
 use Rattle.direct_memory.specs.Cells.{Cell, cell, part, reads}
-use Rattle.direct_memory.specs.Layouts.{booked, end_of, use_from}
+use Rattle.direct_memory.specs.Layouts.{booked, end_of}
 use Rattle.direct_memory.specs.Views.{Shape, block_cells, block_from, blocks_in, books, books_at}
 use Rattle.direct_memory.proofs.Celling.{get_d_reads, reads_in}
-use Rattle.direct_memory.proofs.Shaping.{Fits, blocks_laid, books_room, count_blocks, length_block_cells}
+use Rattle.direct_memory.proofs.Shaping.{Fits, blocks_laid, books_room, length_block_cells}
 use Rattle.direct_memory.proofs.Wording.{length_part}
 
 -- the byte at which block i begins

@@ -1,7 +1,7 @@
 -- Cells that lie one after another: what a write does to what they read.
-use Rattle.std.proofs.Common.{◌≡◌, ℕ, zero, suc, ◌+◌, ◌-◌, ◌<◌, ◌≤◌, List, [], ◌∷◌, ◌++◌, length, get_or, set, sym, refl, ap, ◌∙◌, le_of_suc-le-suc, not-suc-le-zero, arith}
+use Rattle.std.proofs.Common.{◌≡◌, ℕ, zero, suc, ◌+◌, ◌<◌, ◌≤◌, List, [], ◌∷◌, ◌++◌, length, get_or, set, refl, ap, le_of_suc-le-suc, not-suc-le-zero, arith}
 use lib.Seq.{sets}
-use Rattle.direct_memory.specs.Cells.{Cell, cell, part, reads}
+use Rattle.direct_memory.specs.Cells.{Cell, part, reads}
 use Rattle.direct_memory.proofs.Wording.{part_sets_in, part_sets_below, part_sets_above}
 
 module _ {X : Type 0} where

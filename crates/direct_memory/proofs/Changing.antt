@@ -1,18 +1,18 @@
 -- What each write makes of what is held.
-use Rattle.std.proofs.Common.{◌≡◌, ℕ, zero, suc, ◌+◌, ◌-◌, ◌*◌, ◌/◌, ◌%◌, ◌^◌, ◌<◌, ◌≤◌, Bool, true, false, cond, ◌&&◌, eqb, ltb, leb, List, [], ◌∷◌, ◌++◌, map, length, get_or, take, drop, set, replicate, sym, refl, ap, ◌∙◌, le_of_suc-le-suc, not-suc-le-zero, arith}
+use Rattle.std.proofs.Common.{◌≡◌, ℕ, suc, ◌+◌, ◌-◌, ◌*◌, ◌<◌, ◌≤◌, true, false, List, [], ◌∷◌, ◌++◌, length, get_or, set, replicate, sym, refl, ap, ◌∙◌, arith}
 use lib.Seq.{sets}
-use Rattle.std.proofs.lemmas.List.{length-replicate, length_push}
+use Rattle.std.proofs.lemmas.List.{length-replicate}
 use Rattle.std.proofs.lemmas.Bool.{lt-ltb, le-ltb}
-use Rattle.device.specs.Calls.{can_make, fresh_buffer, grown, has_word, replaced, source_of}
-use Rattle.device.specs.Meaning.{Block, Buffer, Holdings, Source, no_block, no_buffer, no_source}
+use Rattle.device.specs.Calls.{grown, has_word, replaced, source_of}
+use Rattle.device.specs.Meaning.{Block, Buffer, Holdings, Source}
 use Rattle.device.specs.Uses.{resting_use}
 use Rattle.device.specs.declared.buffers.PoolKind.{PoolKind}
-use Rattle.direct_memory.specs.Cells.{Cell, cell, part, reads}
+use Rattle.direct_memory.specs.Cells.{cell, part, reads}
 use Rattle.direct_memory.specs.Layouts.{words_for}
-use Rattle.direct_memory.specs.Views.{Shape, block_cells, blocks_in, books, books_at, buffer_of, buffer_words, holdings, pool_at, pool_cells, pool_in, source_cell, sources_in}
+use Rattle.direct_memory.specs.Views.{Shape, blocks_in, buffer_of, buffer_words, holdings, pool_at, pool_cells, pool_in, sources_in}
 use Rattle.direct_memory.specs.declared.layout.PoolSlot.{PoolSlot}
-use Rattle.direct_memory.proofs.Celling.{reads-++, reads_above, reads_in}
-use Rattle.direct_memory.proofs.Shaping.{Fits, no_place, no_slot, buffer_end, count_pool, frame_blocks_above, frame_blocks_below, frame_books_above, frame_pool, frame_sources, pool_laid, source_at_lem, source_end, source_long, source_past, source_written}
+use Rattle.direct_memory.proofs.Celling.{reads-++, reads_above}
+use Rattle.direct_memory.proofs.Shaping.{Fits, no_place, buffer_end, frame_blocks_above, frame_blocks_below, frame_pool, frame_sources, pool_laid, source_at_lem, source_end, source_long, source_past, source_written}
 use Rattle.direct_memory.proofs.Wording.{length_part, part_sets_in, sets_over}
 
 abbrev holding : List Source → List Buffer → List Block → Shape → Holdings

@@ -1,7 +1,7 @@
 -- Entries in words, handled one after another.
-use Rattle.std.proofs.Common.{◌≡◌, ℕ, zero, suc, ◌+◌, ◌-◌, ◌*◌, ◌/◌, ◌<◌, ◌≤◌, Bool, true, false, ◌⊎◌, List, [], ◌∷◌, ◌++◌, length, get_or, take, drop, set, sym, refl, ap, ◌∙◌, subst, inl, inr, ⊎_elim, le_of_suc-le-suc, not-suc-le-zero, arith, length-drop}
+use Rattle.std.proofs.Common.{◌≡◌, ℕ, zero, suc, ◌+◌, ◌-◌, ◌*◌, ◌/◌, ◌<◌, ◌≤◌, Bool, true, false, ◌⊎◌, List, [], ◌∷◌, ◌++◌, length, get_or, take, drop, sym, refl, ap, ◌∙◌, subst, inl, inr, ⊎_elim, le_of_suc-le-suc, not-suc-le-zero, arith, length-drop}
 use lib.Seq.{sets, length-sets}
-use Rattle.std.proofs.lemmas.List.{take_more, take_all, take_rest, drop-drop, get_or-drop, drop_more}
+use Rattle.std.proofs.lemmas.List.{take_more, take_rest, drop-drop, get_or-drop}
 use Rattle.std.proofs.lemmas.Bool.{and_parts, leb-true}
 use Rattle.entry.specs.Entries.{entry_from}
 use Rattle.entry.specs.declared.metadata.MetadataEntry.{MetadataEntry}

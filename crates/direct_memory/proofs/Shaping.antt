@@ -1,18 +1,18 @@
 -- Words that are cut as a shape says.
-use Rattle.std.proofs.Common.{◌≡◌, ℕ, zero, suc, ◌+◌, ◌-◌, ◌*◌, ◌/◌, ◌%◌, ◌^◌, ◌<◌, ◌≤◌, Bool, true, false, cond, ◌&&◌, eqb, ltb, ◌⊎◌, List, [], ◌∷◌, ◌++◌, map, length, get_or, take, drop, set, replicate, sym, refl, ap, ◌∙◌, inl, inr, ⊎_elim, le_of_suc-le-suc, not-suc-le-zero, mul-le-mul_right, mul_comm, add-mul, arith}
+use Rattle.std.proofs.Common.{◌≡◌, ℕ, zero, suc, ◌+◌, ◌-◌, ◌*◌, ◌/◌, ◌%◌, ◌^◌, ◌<◌, ◌≤◌, true, ◌&&◌, eqb, ltb, List, [], ◌∷◌, map, length, get_or, set, refl, ap, ◌∙◌, le_of_suc-le-suc, not-suc-le-zero, mul-le-mul_right, add-mul, arith}
 use lib.Seq.{sets}
-use Rattle.std.proofs.lemmas.List.{length-map, get_or-map, get_or_past, length-take-le}
-use Rattle.std.proofs.lemmas.Bool.{and_parts, and_from, eqb-true, eq-eqb, ltb-true, lt-ltb}
-use Rattle.device.specs.Calls.{block_bytes, block_of, source_of}
-use Rattle.device.specs.Meaning.{Block, Buffer, Holdings, Source, no_block, no_buffer, no_source}
+use Rattle.std.proofs.lemmas.List.{length-map, get_or-map, get_or_past}
+use Rattle.std.proofs.lemmas.Bool.{and_parts, eqb-true, ltb-true}
+use Rattle.device.specs.Calls.{source_of}
+use Rattle.device.specs.Meaning.{Buffer, Source, no_buffer, no_source}
 use Rattle.device.specs.declared.buffers.BufferUses.TheVariants.{MapWrite}
 use Rattle.device.specs.declared.buffers.PoolKind.TheVariants.{Destination}
 use Rattle.direct_memory.specs.Cells.{Cell, cell, part, reads}
-use Rattle.direct_memory.specs.Layouts.{booked, end_of, laid_sources, use_from, words_for}
-use Rattle.direct_memory.specs.Views.{Shape, block_cells, block_from, blocks_in, books, books_at, buffer_of, buffer_words, holdings, pool_at, pool_cells, pool_in, source_cell, sources_in}
+use Rattle.direct_memory.specs.Layouts.{booked, end_of, laid_sources, words_for}
+use Rattle.direct_memory.specs.Views.{Shape, block_cells, blocks_in, books, books_at, buffer_of, buffer_words, pool_at, pool_cells, pool_in, source_cell, sources_in}
 use Rattle.direct_memory.specs.declared.layout.PoolSlot.{PoolSlot}
 use Rattle.direct_memory.specs.declared.layout.SourcePlace.{SourcePlace}
-use Rattle.direct_memory.proofs.Celling.{Laid, laid_below, laid_start, laid_end, length_reads, get_d_reads, reads-++, reads_above, reads_below, reads_in}
+use Rattle.direct_memory.proofs.Celling.{Laid, laid_end, length_reads, get_d_reads, reads_above, reads_below, reads_in}
 use Rattle.direct_memory.proofs.Wording.{length_part, part_sets_above, part_sets_below}
 
 -- what stands where there is nothing

@@ -1,6 +1,6 @@
 -- Runs of words written into a list, and parts of it.
-use Rattle.std.proofs.Common.{◌≡◌, ℕ, zero, suc, ◌+◌, ◌-◌, ◌<◌, ◌≤◌, ◌⊎◌, List, [], ◌∷◌, ◌++◌, length, get_or, take, drop, set, replicate, sym, refl, ap, ◌∙◌, ⊎_elim, arith, length-drop, length-set, length-take, drop-set-lt}
-use lib.Seq.{sets, sets-eq, length-sets, take-set-lt, take-set-le, drop-set-add}
+use Rattle.std.proofs.Common.{◌≡◌, ℕ, zero, suc, ◌+◌, ◌-◌, ◌<◌, ◌≤◌, ◌⊎◌, List, [], ◌∷◌, ◌++◌, length, get_or, take, drop, set, sym, refl, ap, ◌∙◌, ⊎_elim, arith, length-drop, length-set, length-take, drop-set-lt}
+use lib.Seq.{sets, sets-eq, take-set-lt, take-set-le, drop-set-add}
 use borrow.Rule.Slice.PartMut.{put_mid}
 use Rattle.std.proofs.lemmas.List.{append_assoc, append-nil, take-append-drop, take_more, take_all, take-take, drop_all, drop-drop, drop-take, get_or-drop, set-set, set_comm}
 use Rattle.std.proofs.lemmas.Slice.{put_mid-paste}

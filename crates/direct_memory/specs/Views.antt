@@ -1,5 +1,5 @@
 -- What words mean that are cut so.
-use Rattle.std.specs.Prelude.{ℕ, ◌+◌, ◌-◌, ◌*◌, ◌/◌, ◌%◌, Bool, List, [], ◌∷◌, map, length, take}
+use Rattle.std.specs.Prelude.{ℕ, ◌+◌, ◌-◌, ◌/◌, ◌%◌, List, [], ◌∷◌, map}
 use Rattle.device.specs.Calls.{block_of, source_of}
 use Rattle.device.specs.Meaning.{Block, Buffer, Holdings, Source}
 use Rattle.device.specs.declared.properties.Properties.{Properties}

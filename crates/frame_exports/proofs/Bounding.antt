@@ -1,5 +1,5 @@
 -- A frame has no more draws and batches than its requests and its tables allow.
-use Rattle.std.proofs.Common.{◌≡◌, ℕ, ◌+◌, ◌≤◌, Bool, true, false, cond, List, [], ◌∷◌, map, length, replicate, Ok, Err, Result, ap, arith}
+use Rattle.std.proofs.Common.{◌≡◌, ℕ, ◌+◌, ◌≤◌, Bool, true, false, cond, List, [], ◌∷◌, map, length, replicate, Ok, Err, Result, arith}
 use Rattle.std.proofs.lemmas.List.{length-map}
 use Rattle.batcher.specs.Judged.{Batching, Terms, batching_after}
 use Rattle.batcher.specs.Records.{no_batch, no_draw}

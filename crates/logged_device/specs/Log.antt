@@ -1,5 +1,5 @@
 -- The log of an encoder.
-use Rattle.std.specs.Prelude.{ℕ, ◌+◌, ◌-◌, ◌^◌, min, cond, List, [], ◌∷◌, ◌++◌, length, take, nat_lt}
+use Rattle.std.specs.Prelude.{ℕ, ◌+◌, ◌-◌, ◌^◌, min, cond, List, [], ◌∷◌, ◌++◌, take, nat_lt}
 use Rattle.device.specs.declared.commands.Command.{Command}
 
 -- the first commands, and how many there were in all

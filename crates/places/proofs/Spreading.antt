@@ -1,8 +1,8 @@
 -- Places that were laid one after another are apart and inside.
-use Rattle.std.proofs.Common.{◌≡◌, ℕ, ◌+◌, ◌<◌, ◌≤◌, ◌⊎◌, List, [], ◌∷◌, inl, inr, arith}
+use Rattle.std.proofs.Common.{◌≡◌, ℕ, ◌≤◌, List, [], ◌∷◌, inl, inr, arith}
 use Rattle.std.proofs.ByRecursion.{All-weaker}
 use Rattle.std.specs.List.{AllByRecursion}
-use Rattle.places.specs.Laid.{Span, Follows, Chained, Laid, Within, Before, Pairwise, LaidApart}
+use Rattle.places.specs.Laid.{Span, Follows, Chained, Within, Before, Pairwise, LaidApart}
 
 before_step : (room : ℕ) (s t : Span) → Follows room s t → Before s t
 before_step room s t (inl f) = (omega (arith, f.0), λ e. omega (arith, f.1))

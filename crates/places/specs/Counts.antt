@@ -1,6 +1,6 @@
 -- A supply that only counts.
-use Rattle.std.specs.Prelude.{ℕ, cond}
-use Rattle.places.specs.Supplies.{gives, held_after, more_after}
+use Rattle.std.specs.Prelude.{ℕ}
+use Rattle.places.specs.Supplies.{held_after, more_after}
 
 pub record Counts : Type 0 where
   pub holds : ℕ

@@ -1,5 +1,5 @@
 -- Where a size goes after the current place, and what a supply says to it.
-use Rattle.std.specs.Prelude.{◌≡◌, ℕ, ◌+◌, ◌^◌, ◌<◌, ◌≤◌, Bool, true, false, cond, IfOk, Some, None, Ok, Err, Option, Result, nat_le, nat_lt}
+use Rattle.std.specs.Prelude.{◌≡◌, ℕ, ◌+◌, ◌^◌, ◌<◌, ◌≤◌, Bool, false, cond, IfOk, Some, None, Ok, Err, Option, Result, nat_le, nat_lt}
 use Rattle.command.specs.declared.refusal.Refusal.{Refusal}
 use Rattle.command.specs.declared.refusal.Refusal.TheVariants.{NoBuffer}
 use Rattle.places.specs.declared.current.CurrentEntry.{CurrentEntry}

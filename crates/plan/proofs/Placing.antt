@@ -1,12 +1,12 @@
 -- One more batch of a plan.
-use Rattle.std.proofs.Common.{◌≡◌, ℕ, suc, ◌+◌, ◌^◌, ◌<◌, ◌≤◌, Bool, true, false, cond, ltb, leb, List, [], ◌∷◌, ◌++◌, length, get_or, take, drop, set, is_ok, IfOk, Some, None, Ok, Err, Option, Result, sym, refl, ap, ◌∙◌, subst, arith, leb-false, leb-true}
-use Rattle.std.proofs.lemmas.List.{append_assoc, append-nil, at_drop_more, at_drop_all, drop_more, drop-drop, drop-set-lt, take_more_set, take_all}
+use Rattle.std.proofs.Common.{◌≡◌, ℕ, ◌+◌, ◌^◌, ◌<◌, ◌≤◌, Bool, true, false, cond, leb, List, [], ◌∷◌, ◌++◌, length, get_or, take, drop, set, is_ok, IfOk, Some, None, Ok, Option, Result, sym, refl, ap, ◌∙◌, subst, arith}
+use Rattle.std.proofs.lemmas.List.{append_assoc, append-nil, at_drop_all, drop_more, drop-drop, drop-set-lt, take_more_set, take_all}
 use Rattle.std.proofs.lemmas.Bool.Decides.{nat_tests}
 use Rattle.command.specs.declared.refusal.Refusal.{Refusal}
 use Rattle.batcher.specs.Records.{no_batch}
 use Rattle.batcher.specs.declared.records.DrawIndirectValidationBatch.{DrawIndirectValidationBatch}
 use Rattle.places.proofs.Laying.{answered_ok}
-use Rattle.places.specs.Placed.{Stocked, answered, current_after, fits, following, placed, past, entry, fresh, supply_after}
+use Rattle.places.specs.Placed.{Stocked, answered, current_after, fits, following, past, entry, fresh, supply_after}
 use Rattle.places.specs.Supplies.{grants}
 use Rattle.places.specs.declared.current.CurrentEntry.{CurrentEntry}
 use Rattle.plan.specs.Planned.{bytes_of, place_of, next_of, put, planned, ending, supplied}

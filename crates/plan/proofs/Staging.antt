@@ -1,12 +1,12 @@
 -- A plan spreads the batches over blocks and buffers, and leaves what they are.
-use Rattle.std.proofs.Common.{◌≡◌, ℕ, ◌+◌, ◌*◌, ◌<◌, ◌≤◌, Bool, true, false, cond, ltb, leb, ◌⊎◌, List, [], ◌∷◌, ◌++◌, map, length, get_or, take, drop, IfOk, Some, None, Ok, Err, Option, Result, sym, refl, ap, ◌∙◌, subst, inl, inr, arith, leb-false, leb-true}
+use Rattle.std.proofs.Common.{◌≡◌, ℕ, ◌+◌, ◌<◌, ◌≤◌, Bool, true, false, cond, ltb, leb, List, [], ◌∷◌, ◌++◌, map, length, get_or, take, drop, IfOk, Some, None, Ok, Err, Option, Result, sym, refl, ap, ◌∙◌, subst, inl, inr, arith, leb-false, leb-true}
 use lib.ListN.{get_or-map}
 use Rattle.std.proofs.ByRecursion.{All-weaker}
 use Rattle.std.proofs.lemmas.List.{length-map, length-take-le, length-append, length-drop, take_at}
 use Rattle.std.specs.List.{AllByRecursion}
 use Rattle.places.proofs.Spreading.{laid_apart}
 use Rattle.places.specs.Laid.{Span, span, Chained, Follows, Laid}
-use Rattle.places.specs.Placed.{entry, following, placed, past}
+use Rattle.places.specs.Placed.{entry, following, past}
 use Rattle.places.specs.declared.current.CurrentEntry.{CurrentEntry}
 use Rattle.batcher.proofs.Bounding.{bounded}
 use Rattle.batcher.specs.Holds.{Bounded, Held, Holds, Paired, Recorded, key_of}
@@ -19,7 +19,7 @@ use Rattle.command.specs.declared.family.DrawCommandFamily.{DrawCommandFamily}
 use Rattle.command.specs.declared.refusal.Refusal.{Refusal}
 use Rattle.command.specs.declared.refusal.Refusal.TheVariants.{TableFull, NoBuffer}
 use Rattle.plan.specs.declared.frame.FramePlan.{FramePlan}
-use Rattle.plan.specs.Planned.{batches_after, plan_answer, bytes_of, ending, measured, next_of, place_of, planned, put}
+use Rattle.plan.specs.Planned.{batches_after, plan_answer, bytes_of, ending, measured, next_of, place_of, planned}
 use Rattle.plan.specs.Staged.{Spread, Staged, metadata_span, staging_span}
 use Rattle.plan.proofs.Placing.{ending_up}
 use Rattle.plan.proofs.Summing.{all_total, total, total_draws}

@@ -1,5 +1,5 @@
 -- A place that was handed out is in a member.
-use Rattle.std.proofs.Common.{◌≡◌, ℕ, ◌≤◌, Ok, Err, Option, Result, sym, ap, ◌∙◌, subst, arith}
+use Rattle.std.proofs.Common.{ℕ, ◌≤◌, Ok, Err, Option, Result, arith}
 use Rattle.command.specs.declared.refusal.Refusal.{Refusal}
 use Rattle.places.specs.declared.current.CurrentEntry.{CurrentEntry}
 use Rattle.places.specs.Placed.{Stocked, current_after, following}

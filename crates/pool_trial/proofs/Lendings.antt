@@ -1,9 +1,8 @@
 -- One member more leaves one fewer to give.
-use Rattle.std.proofs.Common.{◌≡◌, ℕ, ◌+◌, ◌-◌, ◌<◌, ◌≤◌, min, Bool, true, false, cond, eqb, ltb, List, [], ◌∷◌, ◌++◌, length, take, refl, ap, ◌∙◌, arith}
+use Rattle.std.proofs.Common.{◌≡◌, ℕ, ◌+◌, ◌-◌, Bool, true, false, cond, ltb, length, refl, arith}
 use Rattle.places.specs.Supplies.{gives, grants, held_after, more_after}
-use Rattle.pool_trial.specs.Lending.{Lending, lend, held_of, more_of, joined, lending}
-use Rattle.pool_trial.specs.Making.{one_made}
-use Rattle.pool_trial.specs.Stock.{top, popped, pushed}
+use Rattle.pool_trial.specs.Lending.{Lending, held_of, more_of, joined, lending}
+use Rattle.pool_trial.specs.Stock.{top}
 use Rattle.std.proofs.lemmas.List.{length_push, length-take-le}
 use Rattle.std.proofs.lemmas.Bool.{cond_both, ltb-true, ltb-false, true≢false}
 

@@ -1,5 +1,5 @@
 -- The limits of all slots, by induction over slots and steps.
-use Rattle.std.proofs.Common.{◌≡◌, ℕ, zero, suc, ◌+◌, ◌-◌, ◌<◌, ◌≤◌, true, ◌⊎◌, ◌↔◌, List, [], ◌∷◌, Some, None, Option, sym, refl, ap, ◌∙◌, subst, inl, inr, arith}
+use Rattle.std.proofs.Common.{◌≡◌, ℕ, zero, suc, ◌+◌, ◌<◌, ◌≤◌, true, ◌⊎◌, ◌↔◌, List, [], ◌∷◌, Some, None, Option, sym, refl, ap, ◌∙◌, subst, inl, inr, arith}
 use Rattle.render.specs.declared.bindings.BufferRange.{BufferRange}
 use Rattle.render.specs.declared.bindings.IndexBinding.{IndexBinding}
 use Rattle.render.specs.declared.bindings.VertexSlot.{VertexSlot}

@@ -1,5 +1,5 @@
 -- However a sheet's draws are answered, no more is recorded than its tables hold.
-use Rattle.std.proofs.Common.{◌≡◌, ℕ, ◌≤◌, List, [], ◌∷◌, ◌++◌, length, None, Ok, Err, Result, refl, arith, MatchResult}
+use Rattle.std.proofs.Common.{ℕ, ◌≤◌, List, [], ◌∷◌, ◌++◌, length, Ok, Err, Result, refl, arith, MatchResult}
 use Rattle.batcher.proofs.Keeping.{keeps}
 use Rattle.batcher.specs.Holds.{Holds, asked}
 use Rattle.batcher.specs.Judged.{Terms, Wanted}

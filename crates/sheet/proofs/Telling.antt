@@ -1,5 +1,5 @@
 -- What is printed of a sheet tells every draw and every batch.
-use Rattle.std.proofs.Common.{◌≡◌, ℕ, ◌+◌, ◌<◌, ◌≤◌, Bool, true, false, cond, ltb, leb, List, [], ◌∷◌, ◌++◌, map, length, get_or, take, drop, set, replicate, Some, None, Ok, Err, Option, Result, sym, refl, ap, ◌∙◌, subst, append_assoc, append-nil, arith, leb-false}
+use Rattle.std.proofs.Common.{◌≡◌, ℕ, ◌+◌, ◌<◌, ◌≤◌, Bool, true, false, cond, ltb, List, [], ◌∷◌, ◌++◌, map, length, take, Some, None, Ok, Err, Option, Result, sym, refl, ap, ◌∙◌, subst, append_assoc, append-nil, arith, leb-false}
 use Rattle.std.proofs.lemmas.List.{length-set, length-take-le, length-replicate, map_push, take_more_set}
 use Rattle.std.proofs.lemmas.Bool.Decides.{nat_tests}
 use Rattle.std.specs.List.{AllByRecursion}
@@ -18,18 +18,18 @@ use Rattle.command.specs.Lawful.{lawful}
 use Rattle.command.specs.declared.family.DrawCommandFamily.{DrawCommandFamily}
 use Rattle.command.specs.declared.refusal.Refusal.{Refusal}
 use Rattle.command.specs.declared.refusal.Refusal.TheVariants.{UnlawfulSettings}
-use Rattle.page.specs.Sheets.{Parsed, Sheet, good, bad, read_page}
+use Rattle.page.specs.Sheets.{Sheet}
 use Rattle.page.specs.declared.line.DrawLine.{DrawLine}
 use Rattle.places.specs.Placed.{following}
 use Rattle.places.specs.Supplies.{grants}
 use Rattle.places.specs.declared.current.CurrentEntry.{CurrentEntry}
 use Rattle.plan.proofs.Placing.{next_bound}
-use Rattle.plan.proofs.Staging.{batches_known, front_planned, planned_held, planned_length}
-use Rattle.plan.specs.Planned.{batches_after, ending, measured, next_of, plan_answer, planned}
+use Rattle.plan.proofs.Staging.{batches_known, front_planned, planned_held}
+use Rattle.plan.specs.Planned.{ending, measured, next_of, plan_answer, planned}
 use Rattle.sheet.specs.Frames.{Recording, answer_of, fresh, outcome_of, recorded, recorded_all, request_of}
 use Rattle.sheet.specs.Laws.{Tells, Told, answers_text, place_of_draw, places_in}
-use Rattle.sheet.specs.Printed.{answer_line, answer_lines, batch_lines, frame_text, parsed_text, plan_lines, planned_text, printed, refused_line, sheet_text, terms_of}
-use Rattle.sheet.proofs.Sounding.{Sound, sound_all, sound_fresh, sound_step}
+use Rattle.sheet.specs.Printed.{answer_line, answer_lines, batch_lines, frame_text, parsed_text, plan_lines, planned_text, printed, refused_line, terms_of}
+use Rattle.sheet.proofs.Sounding.{sound_all, sound_fresh}
 
 module _ (t : Terms) (ss : List ℕ) where
   answers_of : Recording → List DrawLine → List (Result CurrentEntry Refusal)

@@ -1,5 +1,5 @@
 -- What is printed of a sheet.
-use Rattle.std.specs.Prelude.{ℕ, ◌+◌, Bool, true, false, cond, List, [], ◌∷◌, ◌++◌, take, Ok, Err, codes, decimal, Result, ◌==◌}
+use Rattle.std.specs.Prelude.{ℕ, ◌+◌, cond, List, [], ◌∷◌, ◌++◌, take, Ok, Err, codes, decimal, Result, ◌==◌}
 use Rattle.command.specs.Family.{src_stride, dst_stride}
 use Rattle.command.specs.Lawful.{lawful}
 use Rattle.command.specs.Refusals.{number_of}

@@ -1,5 +1,5 @@
 -- The distinct indices of a list, in the order in which each is first named.
-use Rattle.std.specs.Prelude.{◌≡◌, ℕ, suc, ◌<◌, Bool, true, false, cond, ◌||◌, List, [], ◌∷◌, length, ◌==◌}
+use Rattle.std.specs.Prelude.{◌≡◌, ℕ, suc, ◌<◌, Bool, false, cond, ◌||◌, List, [], ◌∷◌, ◌==◌}
 
 abbrev pub has : ℕ → List ℕ → Bool
 has k [] = false

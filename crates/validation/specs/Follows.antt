@@ -1,5 +1,5 @@
 -- What becomes of one indirect draw, from its request to the words that are drawn.
-use Rattle.std.specs.Prelude.{ℕ, ◌+◌, ◌/◌, ◌%◌, ◌^◌, Bool, true, false, not, ◌&&◌, List, [], ◌∷◌, length, take, drop, Ok, Result, ◌==◌, nat_lt}
+use Rattle.std.specs.Prelude.{ℕ, ◌+◌, ◌/◌, ◌%◌, ◌^◌, Bool, not, ◌&&◌, List, [], ◌∷◌, length, take, drop, Ok, Result, ◌==◌, nat_lt}
 use Rattle.command.specs.Family.{is_indexed, src_stride}
 use Rattle.command.specs.declared.family.DrawCommandFamily.{DrawCommandFamily}
 use Rattle.command.specs.declared.family.DrawCommandFamily.TheVariants.{Draw, DrawIndexed}

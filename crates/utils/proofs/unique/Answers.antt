@@ -3,7 +3,7 @@ use Rattle.std.proofs.lemmas.Bool.{and_from, le-leb, cond-true}
 use Rattle.utils.proofs.Reading.{counted_some, front_named}
 use Rattle.utils.proofs.unique.Goals as goal
 use Rattle.utils.specs.Firsts.{firsts, FirstNamed}
-use Rattle.utils.specs.Unique.{all_below, counted, fronted, fits}
+use Rattle.utils.specs.Unique.{all_below, fits}
 
 pub returns : goal.returns
 returns c =

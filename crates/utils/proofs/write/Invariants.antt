@@ -1,4 +1,4 @@
-use Rattle.std.proofs.Common.{◌≡◌, ◌≤◌, length, take}
+use Rattle.std.proofs.Common.{◌≡◌, length, take}
 use Rattle.utils.proofs.Reading.{Read}
 use Rattle.utils.proofs.write.Given as goal
 use Rattle.utils.specs.Firsts.{firsts}

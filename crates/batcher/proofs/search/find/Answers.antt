@@ -1,4 +1,4 @@
-use Rattle.std.proofs.Common.{◌≡◌, ℕ, Some, None, sym, ◌∙◌}
+use Rattle.std.proofs.Common.{◌≡◌, Some, None, sym, ◌∙◌}
 use Rattle.batcher.specs.Keys.{found}
 use Rattle.batcher.proofs.Finding.{found_here, found_more, found_none, finds}
 use Rattle.batcher.proofs.search.find.Goals as goal

@@ -1,4 +1,4 @@
-use Rattle.std.proofs.Common.{get_or, drop, sym, ◌∙◌, add-zero}
+use Rattle.std.proofs.Common.{◌∙◌, add-zero}
 use Rattle.std.proofs.lemmas.List.{get_or-drop}
 use Rattle.direct_memory.proofs.entries.entry_at.Goals as goal
 

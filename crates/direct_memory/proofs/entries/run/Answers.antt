@@ -1,4 +1,4 @@
-use Rattle.std.proofs.Common.{◌<◌, length, drop, sym, ap, ◌∙◌, arith}
+use Rattle.std.proofs.Common.{drop, sym, ap, ◌∙◌, arith}
 use lib.Seq.{sets}
 use Rattle.std.proofs.lemmas.List.{take_all}
 use Rattle.device.specs.Dispatches.{entries_from, ran}

@@ -1,7 +1,6 @@
-use Rattle.std.proofs.Common.{◌≡◌, ℕ, ◌+◌, ◌-◌, ◌/◌, List, [], take, drop, unwrap_or, ap, ◌∙◌, arith}
+use Rattle.std.proofs.Common.{◌≡◌, ℕ, ◌+◌, ◌-◌, ◌/◌, [], take, drop, unwrap_or, ap, ◌∙◌, arith}
 use lib.Seq.{sets}
-use Rattle.entry.specs.Entries.{entry_from, unpacked}
-use Rattle.entry.specs.Verdicts.{argument_words, verdict}
+use Rattle.entry.specs.Entries.{entry_from}
 use Rattle.device.specs.Dispatches.{drawn, place_at}
 use Rattle.direct_memory.specs.Cells.{part}
 use Rattle.direct_memory.proofs.entries.run_entry.Goals as goal

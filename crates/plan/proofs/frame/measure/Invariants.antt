@@ -1,4 +1,4 @@
-use Rattle.std.proofs.Common.{◌≡◌, ℕ, ◌≤◌, drop, None}
+use Rattle.std.proofs.Common.{◌≡◌, ◌≤◌, drop, None}
 use Rattle.places.specs.Placed.{following}
 use Rattle.plan.specs.Planned.{ending}
 use Rattle.plan.proofs.frame.measure.Given as goal

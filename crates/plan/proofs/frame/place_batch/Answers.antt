@@ -1,4 +1,4 @@
-use Rattle.std.proofs.Common.{◌≡◌, ℕ, ◌+◌, ◌<◌, ◌≤◌, Ok, Option, Result, sym, refl, ap, ◌∙◌, subst}
+use Rattle.std.proofs.Common.{◌≡◌, ℕ, ◌≤◌, Ok, Option, Result, sym, ap, ◌∙◌, subst}
 use Rattle.command.specs.declared.refusal.Refusal.{Refusal}
 use Rattle.places.specs.Placed.{Stocked, answered, current_after, fits, following, supply_after}
 use Rattle.places.specs.Supplies.{grants}

@@ -1,9 +1,9 @@
-use Rattle.std.proofs.Common.{◌≡◌, ℕ, ◌+◌, ◌^◌, ◌<◌, ◌≤◌, cond, List, ◌++◌, length, get_or, take, drop, set, Option, sym, refl, ap, ◌∙◌, subst, arith}
+use Rattle.std.proofs.Common.{◌+◌, ◌<◌, ◌≤◌, ◌++◌, length, get_or, take, drop, set, Option, sym, ap, ◌∙◌, subst, arith}
 use Rattle.batcher.specs.Records.{no_batch}
 use Rattle.batcher.specs.declared.records.DrawIndirectValidationBatch.{DrawIndirectValidationBatch}
-use Rattle.places.specs.Placed.{fits, following}
+use Rattle.places.specs.Placed.{following}
 use Rattle.places.specs.declared.current.CurrentEntry.{CurrentEntry}
-use Rattle.plan.specs.Planned.{bytes_of, ending, next_of, place_of, planned, put, supplied}
+use Rattle.plan.specs.Planned.{ending, next_of, place_of, planned, put, supplied}
 use Rattle.plan.proofs.Placing.{all_planned, all_supplied, ending_up, next_bound, turn_ending, turn_kept, turn_planned, turn_supplied}
 use Rattle.plan.proofs.frame.place_batches.Goals as goal
 

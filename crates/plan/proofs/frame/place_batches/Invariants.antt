@@ -1,4 +1,4 @@
-use Rattle.std.proofs.Common.{◌≡◌, ℕ, ◌+◌, ◌≤◌, ◌++◌, take, drop, None}
+use Rattle.std.proofs.Common.{◌≡◌, ◌+◌, ◌≤◌, ◌++◌, take, drop, None}
 use Rattle.places.specs.Placed.{following}
 use Rattle.plan.specs.Planned.{ending, planned, supplied}
 use Rattle.plan.proofs.frame.place_batches.Given as goal

@@ -1,4 +1,4 @@
-use Rattle.std.proofs.Common.{◌≡◌, ℕ, ◌+◌, ◌≤◌, List, take, IfOk, sym, refl, ap, ◌∙◌, subst, arith}
+use Rattle.std.proofs.Common.{◌≡◌, ℕ, ◌+◌, List, take, IfOk, sym, refl, ap, ◌∙◌, subst}
 use Rattle.batcher.specs.Holds.{Holds}
 use Rattle.batcher.specs.Judged.{terms}
 use Rattle.batcher.specs.View.{batching}

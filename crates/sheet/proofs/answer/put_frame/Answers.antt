@@ -1,4 +1,4 @@
-use Rattle.std.proofs.Common.{◌≡◌, ℕ, ◌≤◌, List, ◌++◌, length, replicate, string_bytes, sym, refl, ap, ◌∙◌, subst, append_assoc}
+use Rattle.std.proofs.Common.{◌≡◌, ℕ, List, ◌++◌, replicate, string_bytes, sym, ap, ◌∙◌, subst, append_assoc}
 use Rattle.batcher.specs.Judged.{Terms, terms}
 use Rattle.batcher.specs.Records.{no_batch, no_draw}
 use Rattle.batcher.specs.declared.records.DrawIndirectValidationBatch.{DrawIndirectValidationBatch}
@@ -8,7 +8,7 @@ use Rattle.command.specs.Family.{src_stride, dst_stride}
 use Rattle.command.specs.declared.sizes.Sizes.{Sizes}
 use Rattle.page.specs.declared.line.DrawLine.{DrawLine}
 use Rattle.sheet.specs.Frames.{Recording, fresh, recorded_all}
-use Rattle.sheet.specs.Printed.{answer_lines, frame_text, planned_text, terms_of}
+use Rattle.sheet.specs.Printed.{answer_lines, planned_text, terms_of}
 use Rattle.sheet.specs.View.{recording_of}
 use Rattle.sheet.specs.declared.frame.Frame.{Frame}
 use Rattle.sheet.proofs.Sounding.{Inside, inside}

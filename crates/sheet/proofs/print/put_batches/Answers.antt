@@ -1,6 +1,4 @@
-use Rattle.std.proofs.Common.{◌≡◌, ℕ, ◌+◌, ◌<◌, ◌≤◌, List, ◌++◌, length, get_or, drop, string_bytes, sym, ap, ◌∙◌, arith}
-use Rattle.batcher.specs.Records.{no_batch}
-use Rattle.sheet.specs.Printed.{batch_line, batch_lines, entry_lines}
+use Rattle.std.proofs.Common.{string_bytes, sym, ◌∙◌}
 use Rattle.sheet.proofs.Printing.{batches_more, batches_all}
 use Rattle.sheet.proofs.print.put_batches.Goals as goal
 

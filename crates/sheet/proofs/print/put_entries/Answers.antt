@@ -1,4 +1,4 @@
-use Rattle.std.proofs.Common.{◌≡◌, ℕ, ◌+◌, List, ◌++◌, drop, string_bytes, sym, ap, ◌∙◌}
+use Rattle.std.proofs.Common.{ℕ, ◌+◌, List, ◌++◌, drop, string_bytes, sym, ap, ◌∙◌}
 use Rattle.sheet.specs.Printed.{entry_lines}
 use Rattle.sheet.proofs.Printing.{entries_more, entries_all}
 use Rattle.sheet.proofs.print.put_entries.Goals as goal

@@ -1,4 +1,3 @@
-use Rattle.std.proofs.Common.{◌≡◌, ℕ, ◌≤◌, sym, subst, arith}
 use Rattle.command.proofs.Lawfuls.{dst_fits, dst_least, buffer_holds}
 use Rattle.places.specs.Supplies.{grants}
 use Rattle.batcher.specs.Judged.{terms}

@@ -1,4 +1,4 @@
-use Rattle.std.proofs.Common.{ℕ, refl, arith}
+use Rattle.std.proofs.Common.{refl, arith}
 use Rattle.batcher.proofs.batcher.DrawBatcher.new.Goals as goal
 
 pub returns : goal.returns

@@ -1,4 +1,4 @@
-use Rattle.std.proofs.Common.{ℕ, ◌^◌, ◌<◌, ◌≤◌, arith}
+use Rattle.std.proofs.Common.{◌≤◌, arith}
 use Rattle.command.proofs.Lawfuls.{dst_fits, src_most, largest_small, buffer_holds, buffer_small}
 use Rattle.command.specs.Family.{src_stride}
 use Rattle.batcher.proofs.batcher.DrawBatcher.prepare.Goals as goal

@@ -1,9 +1,9 @@
-use Rattle.std.proofs.Common.{◌≡◌, ℕ, zero, suc, ◌+◌, ◌-◌, ◌*◌, ◌/◌, ◌<◌, ◌≤◌, false, cond, get_or, vec_items, refl, sym, ap, ◌∙◌, arith, ◌==◌}
+use Rattle.std.proofs.Common.{◌≡◌, ℕ, zero, suc, ◌+◌, ◌-◌, ◌/◌, ◌<◌, ◌≤◌, false, get_or, vec_items, refl, sym, ap, ◌∙◌, arith, ◌==◌}
 use Rattle.std.proofs.lemmas.Bool.Decides.{nat_tests}
 use Rattle.direct_memory.specs.Held.{shape}
 use Rattle.direct_memory.specs.Layouts.{end_of}
 use Rattle.direct_memory.specs.Lies.{begins_at, book_word}
-use Rattle.direct_memory.specs.Views.{books, books_at}
+use Rattle.direct_memory.specs.Views.{books}
 use Rattle.direct_memory.specs.declared.memory.Memory.{Memory}
 use Rattle.direct_memory.proofs.Blocks.{block_range, book_at, books_length, start_more, start_of}
 use Rattle.direct_memory.proofs.Keeping.{fits}

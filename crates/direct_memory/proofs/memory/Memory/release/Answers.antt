@@ -1,4 +1,4 @@
-use Rattle.std.proofs.Common.{◌≡◌, ℕ, ◌+◌, ◌-◌, [], vec_items, sym, ap, ◌∙◌, arith}
+use Rattle.std.proofs.Common.{◌≡◌, ◌+◌, ◌-◌, [], vec_items, ap, arith}
 use Rattle.device.specs.Calls.{block_bytes}
 use Rattle.device.specs.Meaning.{with_staging}
 use Rattle.direct_memory.specs.Held.{held, shape}

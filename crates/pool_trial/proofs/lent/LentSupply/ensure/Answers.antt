@@ -1,4 +1,4 @@
-use Rattle.std.proofs.Common.{◌≡◌, ℕ, sym, ap, ◌∙◌, rules}
+use Rattle.std.proofs.Common.{◌≡◌, sym, ap, ◌∙◌, rules}
 use Rattle.pool_trial.proofs.Lendings.{lending_held, lending_more, lending_refused}
 use Rattle.pool_trial.proofs.lent.LentSupply.ensure.Goals as goal
 use Rattle.pool_trial.specs.Lending.{Lending, lend, held_of, more_of, lending}

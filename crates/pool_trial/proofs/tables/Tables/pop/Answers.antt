@@ -1,7 +1,7 @@
 use Rattle.std.proofs.Common.{◌≡◌, ℕ, ◌-◌, ◌<◌, ◌≤◌, List, length, get_or, take, ap, arith, rules}
 use Rattle.pool_trial.proofs.Fronts.{front_top, front_rest}
 use Rattle.pool_trial.proofs.tables.Tables.pop.Goals as goal
-use Rattle.pool_trial.specs.Stock.{Stock, top}
+use Rattle.pool_trial.specs.Stock.{top}
 use Rattle.std.proofs.lemmas.List.{length-take-le}
 
 pub returns : goal.returns

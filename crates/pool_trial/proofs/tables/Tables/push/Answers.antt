@@ -1,6 +1,5 @@
 use Rattle.std.proofs.Common.{◌≡◌, ℕ, ◌<◌, ◌≤◌, List, length, take, ap, arith}
 use Rattle.pool_trial.proofs.tables.Tables.push.Goals as goal
-use Rattle.pool_trial.specs.Stock.{Stock}
 use Rattle.std.proofs.lemmas.List.{length-take-le, take_more_set}
 
 pub returns : goal.returns

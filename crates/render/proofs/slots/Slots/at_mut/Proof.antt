@@ -1,21 +1,21 @@
 -- `at_mut` lends one element of the array, and the whole follows it, for every element type. Assumes `Logic`.
-use Rattle.std.proofs.Common.{◌≡◌, ℕ, zero, suc, ◌+◌, ◌*◌, ◌^◌, ◌<◌, ◌≤◌, List, [], ◌∷◌, length, get_or, set, sym, refl, ap, ◌∙◌, subst, le_of_suc-le-suc, not-suc-le-zero, mul-le-mul_right, one-mul, arith, length-set, w64}
+use Rattle.std.proofs.Common.{◌≡◌, ℕ, zero, suc, ◌+◌, ◌*◌, ◌^◌, ◌<◌, ◌≤◌, List, [], ◌∷◌, length, get_or, set, sym, refl, ◌∙◌, subst, le_of_suc-le-suc, not-suc-le-zero, mul-le-mul_right, one-mul, arith, length-set, w64}
 use seplogic.Ra.Ura.{Ura}
 use base.Fraction.{full_share}
 use base.Logic.{SProp, ent, sep, wand, ex, via, assoc', all_e, apply∗}
-use base.Fml.{Fml, Lft, GName, Share, feq, fsep, ftrue, flft, fobs, fauth, fbor, fobor}
+use base.Fml.{Lft, GName, Share, feq, fsep, ftrue, flft, fobs, fbor}
 use mir.Syntax.{Fn, Args, Ty, named, a_type, a_number, ty_array}
 use mir.MapTy.{inst_fn}
 use mir.Val.{Val, vint, vptr}
 use prog.Memory.{size, align, up}
-use prog.Wp.{Env, Calls, Loops, WpFn, Tables}
+use prog.Wp.{Calls, Loops, WpFn, Tables}
 use types.Logic.{Logic, sem}
 use contract.Monad.{fact}
 use contract.Running.{tables, tables_of}
 use sound.WpLaws.{WpFn-mono}
-use types.Kit.{show, ‵, raw, ◌⊛◌, given, some, later, at_ret, ◌$◌, ◌∵◌, !, qed, by, move, keep, use1, use2, use3, drop, split, join, pick, group, learn, check, rewrite, await, updating, now as at_once, fsplit, fsplit3, fjoin, feq_l, feq_i, suffices, frame, done}
-use types.Run.{size_lit, stop, fld, of_opd, bin, addr, returns, enter}
-use types.ByLocal.{alloc_all, pass_all, free_all, look_at, get, through, sets, env}
+use types.Kit.{show, ‵, raw, ◌⊛◌, some, later, ◌$◌, ◌∵◌, !, qed, by, move, keep, use1, use2, use3, drop, split, join, pick, group, rewrite, await, updating, now as at_once, fsplit, fsplit3, fjoin, feq_l, feq_i, suffices, frame, done}
+use types.Run.{size_lit, stop, fld, bin, addr, returns, enter}
+use types.ByLocal.{alloc_all, pass_all, free_all, look_at, get, through, sets}
 use types.SemTy.{Body as Borrowed}
 use types.Mut.{open_ref}
 use denote.Exit.{yes, no}

@@ -1,4 +1,4 @@
-use Rattle.std.proofs.Common.{◌≡◌, List, take, sym, ap, ◌∙◌, subst}
+use Rattle.std.proofs.Common.{List, take, sym, ap, ◌∙◌, subst}
 use Rattle.device.specs.Meaning.{Source, Sound, source_size}
 use Rattle.device.proofs.Playing.{leaves_all}
 use Rattle.deferred_device.proofs.deferred.encode.DeferredDevice.source_size.Goals as goal
