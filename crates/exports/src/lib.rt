@@ -1,4 +1,4 @@
-// What a host in Rust or C calls: include/jorumspit.h declares these functions and says what each writes.
+// What a host calls for windows, entries, limits and direct draws, on numbers and slices. exports_c has the same functions for C.
 #![tactic(auto)]
 
 pub mod bound;

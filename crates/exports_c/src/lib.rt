@@ -1,5 +1,5 @@
-// What a host in C links for windows, entries and limits: each function is the one of the same name in the crate
-// exports, under the same clauses.
+// What a host in C links for windows, entries, limits and direct draws: each function is the one of the same
+// name in exports, under the same clauses. include/jorumspit.h declares them.
 #![tactic(auto)]
 
 pub mod entries;

@@ -1,4 +1,4 @@
-// What a host in Rust or C calls to plan a frame: include/jorumspit.h declares these functions and says what each writes.
+// What a host calls for places, frames and sheets, on numbers and slices. frame_exports_c has the same functions for C.
 #![tactic(auto)]
 
 pub mod frames;

@@ -1,5 +1,5 @@
-// What a host in C links for places, frames and sheets: each function is the one of the same name in the crate
-// frame_exports, under the same clauses.
+// What a host in C links for places, frames and sheets: each function is the one of the same
+// name in frame_exports, under the same clauses. include/jorumspit.h declares them.
 #![tactic(auto)]
 
 pub mod frames;
