@@ -4,7 +4,7 @@
 usage: python3 tools/snake_names.py [--dry] [FOLDER]
 
 It was run once, right after the kit's script that turns an older repository, when the repository moved to
-rattle-kit-13f; docs/PORT.md says so. It changes .antt files and, in .rt files, imports, clauses, ghost members and
+rattle-kit-13f: docs/PORT.md. It changes .antt files and, in .rt files, imports, clauses, ghost members and
 comments. Functions of src/, strings, inputs and outputs keep their names. It refuses to write where two names would
 fall together; `OTHERWISE` has the names for which plain snake case would.
 """
@@ -171,7 +171,7 @@ def main(argv):
     for path in list(texts(root, ".antt")) + list(texts(root, ".rt")):
         with open(path, encoding="utf-8") as f:
             text = f.read()
-        lemmas = LEMMAS.get(os.path.relpath(path, root), {})
+        lemmas = {old: new for old, new in LEMMAS.get(os.path.relpath(path, root), {}).items() if new not in text}
         new = own_name(turn_antt(text, names, lemmas)) if path.endswith(".antt") else turn_rt(text, names)
         if new == text:
             continue
