@@ -5,7 +5,7 @@ use Rattle.std.proofs.lemmas.List.{length-set, take_more_set, length-take-le, ge
 use Rattle.std.specs.List.{AllByRecursion}
 use Rattle.command.proofs.Checking.{first_ok, then_ok}
 use Rattle.command.specs.Checks.{first}
-use Rattle.command.specs.Family.{family_of}
+use Rattle.command.specs.Family.{argument_answer, family_of}
 use Rattle.command.specs.declared.family.DrawCommandFamily.{DrawCommandFamily}
 use Rattle.command.specs.declared.refusal.Refusal.{Refusal}
 use Rattle.command.specs.declared.refusal.Refusal.TheVariants.{TableFull, NoBuffer}
@@ -16,7 +16,7 @@ use Rattle.batcher.specs.declared.records.DrawIndirectValidationBatch.{DrawIndir
 use Rattle.batcher.specs.declared.records.DrawRequest.{DrawRequest}
 use Rattle.batcher.specs.declared.records.IndirectDraw.{IndirectDraw}
 use Rattle.batcher.specs.Holds.{Held, Holds, asked, asked_of}
-use Rattle.batcher.specs.Judged.{Terms, Batching, Wanted, wanted, prepared, chosen, counted, opened, draw_at, place_for, joined, argument_answer, table_checks, judged_wanted, by_size, by_family, granted, outcome, place_of, draws_after, batches_after, batching_after}
+use Rattle.batcher.specs.Judged.{Terms, Batching, Wanted, wanted, prepared, chosen, counted, opened, draw_at, place_for, joined, table_checks, judged_wanted, by_size, by_family, granted, outcome, place_of, draws_after, batches_after, batching_after}
 use Rattle.batcher.specs.Keys.{found, Finds, First}
 use Rattle.batcher.specs.Records.{no_batch}
 use Rattle.batcher.proofs.Finding.{finds}

@@ -1,10 +1,10 @@
 -- What one request for an indirect draw answers and writes.
-use Rattle.std.specs.Prelude.{ℕ, ◌+◌, ◌-◌, ◌%◌, ◌^◌, Bool, true, false, cond, not, List, [], ◌∷◌, length, get_or, take, Some, None, Ok, Err, Option, Result, ◌==◌, nat_le, nat_lt, slice_index_or, slice_set}
+use Rattle.std.specs.Prelude.{ℕ, ◌+◌, ◌-◌, ◌^◌, Bool, true, false, cond, not, List, [], ◌∷◌, length, get_or, take, Some, None, Ok, Err, Option, Result, nat_le, nat_lt, slice_index_or, slice_set}
 use Rattle.command.specs.Checks.{first, and_then}
-use Rattle.command.specs.Family.{family_of, is_indexed, src_stride, dst_stride}
+use Rattle.command.specs.Family.{argument_answer, family_of, is_indexed, src_stride, dst_stride}
 use Rattle.command.specs.declared.family.DrawCommandFamily.{DrawCommandFamily}
 use Rattle.command.specs.declared.refusal.Refusal.{Refusal}
-use Rattle.command.specs.declared.refusal.Refusal.TheVariants.{UnknownKind, NoSuchSource, UnalignedIndirectBufferOffset, IndirectBufferOverrun, TableFull, NoBuffer}
+use Rattle.command.specs.declared.refusal.Refusal.TheVariants.{UnknownKind, NoSuchSource, TableFull, NoBuffer}
 use Rattle.command.specs.declared.settings.Settings.{Settings}
 use Rattle.command.specs.declared.sizes.Sizes.{Sizes}
 use Rattle.entry.specs.Entries.{packed}
@@ -91,11 +91,6 @@ chosen f p batch rank b opens = record {
 abbrev pub joined : DrawCommandFamily → Prepared → ℕ → List DrawIndirectValidationBatch → Option ℕ → Result Chosen Refusal
 joined f p n bs (Some i) = first ((nat_le (2 ^ 32 - 1) (get_or bs i no_batch).count, TableFull) ∷ []) (Ok (chosen f p i (get_or bs i no_batch).count (counted (slice_index_or bs i no_batch)) false))
 joined f p n bs None = first ((nat_le (length bs) n, TableFull) ∷ []) (Ok (chosen f p n 0 (opened p.key) true))
-
--- the arguments stand at a multiple of four, inside their source
-abbrev pub argument_answer : (DrawCommandFamily → ℕ) → DrawCommandFamily → ℕ → ℕ → Result (Unit {0}) Refusal
-argument_answer src f size offset =
-    first ((not (offset % 4 == 0), UnalignedIndirectBufferOffset) ∷ (nat_lt size (offset + src f), IndirectBufferOverrun) ∷ []) (Ok tt)
 
 abbrev pub table_checks : Batching → List IndirectDraw → List DrawIndirectValidationBatch → List (Bool × Refusal)
 table_checks s ds bs =

@@ -5,7 +5,6 @@ ghost use Rattle.std.specs.Prelude.{◌≡◌, not, nat_eq};
 
 use super::status::{OUTSIDE_WINDOW, WIDE_OFFSET};
 use command::family::DrawCommandFamily;
-use command::refusal::Refusal;
 use entry::metadata::MetadataEntry;
 use entry::validate::Arguments;
 
@@ -41,11 +40,11 @@ pub fn jorumspit_entry(
     ensures status { result ≡ entry_status kind src_offset dst_offset }
     ensures written { entry.new ≡ entry_written kind src_offset dst_offset limit instance_limit entry.old }
 {
-    let indexed = match DrawCommandFamily::from_kind(kind) {
-        Some(DrawCommandFamily::Draw) => false,
-        Some(DrawCommandFamily::DrawIndexed) => true,
-        None => return Refusal::UnknownKind.number() as u32,
+    let family = match DrawCommandFamily::try_from(kind) {
+        Ok(family) => family,
+        Err(refusal) => return u32::from(refusal.number()),
     };
+    let indexed = family.is_indexed();
     let Some(packed) = MetadataEntry::new(indexed, src_offset, dst_offset, limit, instance_limit)
     else {
         return WIDE_OFFSET;

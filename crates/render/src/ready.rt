@@ -46,6 +46,6 @@ impl Bindings {
         if kind == 1 && self.index.is_none() {
             return Err(Refusal::MissingIndexBuffer);
         }
-        DrawCommandFamily::from_kind(kind).ok_or(Refusal::UnknownKind)
+        DrawCommandFamily::try_from(kind)
     }
 }

@@ -5,7 +5,7 @@ use Rattle.std.proofs.lemmas.Bool.Decides.{nat_tests}
 use Rattle.std.specs.List.{AllByRecursion}
 use Rattle.batcher.proofs.Keeping.{granted_ok}
 use Rattle.batcher.specs.Holds.{Held, Holds}
-use Rattle.batcher.specs.Judged.{Batching, Terms, Wanted, argument_answer, by_size, by_family, draws_after, joined, judged_wanted, outcome, place_of, prepared, table_checks, wanted}
+use Rattle.batcher.specs.Judged.{Batching, Terms, Wanted, by_size, by_family, draws_after, joined, judged_wanted, outcome, place_of, prepared, table_checks, wanted}
 use Rattle.batcher.specs.Keys.{found}
 use Rattle.batcher.specs.declared.batcher.judge.Chosen.{Chosen}
 use Rattle.batcher.specs.declared.records.DrawIndirectValidationBatch.{DrawIndirectValidationBatch}
@@ -13,7 +13,7 @@ use Rattle.batcher.specs.declared.records.DrawRequest.{DrawRequest}
 use Rattle.batcher.specs.declared.records.IndirectDraw.{IndirectDraw}
 use Rattle.command.proofs.Checking.{first_ok, then_ok}
 use Rattle.command.specs.Checks.{first}
-use Rattle.command.specs.Family.{family_of}
+use Rattle.command.specs.Family.{argument_answer, family_of}
 use Rattle.command.specs.Lawful.{lawful}
 use Rattle.command.specs.declared.family.DrawCommandFamily.{DrawCommandFamily}
 use Rattle.command.specs.declared.refusal.Refusal.{Refusal}

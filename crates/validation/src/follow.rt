@@ -9,7 +9,7 @@ ghost use Rattle.render.specs.Laws.{LimitsDecide};
 ghost use Rattle.validation.specs.Follows.{entry_for, follow_answer, followed, is_source, limited_answer, source_checks};
 ghost use Rattle.validation.specs.Laws.{DrawnLaw, LawAnswered};
 
-use command::family::{DrawCommandFamily, get_src_stride_of_indirect_args};
+use command::family::{DrawCommandFamily, check_arguments};
 use command::refusal::Refusal;
 use command::settings::Settings;
 use entry::metadata::MetadataEntry;
@@ -52,14 +52,7 @@ fn check_source(
     if size > 4_294_967_295 || words.len() as u64 != size.div_ceil(4) {
         return Err(Refusal::NoSuchSource);
     }
-    if offset % 4 != 0 {
-        return Err(Refusal::UnalignedIndirectBufferOffset);
-    }
-    let stride = get_src_stride_of_indirect_args(family);
-    if size < stride || offset > size - stride {
-        return Err(Refusal::IndirectBufferOverrun);
-    }
-    Ok(())
+    check_arguments(family, size, offset)
 }
 
 /// The packed entry of a draw.
@@ -67,12 +60,8 @@ fn pack(limits: DrawLimits, src_offset: u64, dst_offset: u32) -> MetadataEntry
     requires { src_offset < 2 ^ 32 }
     ensures { result ≡ entry_for limits src_offset dst_offset }
 {
-    let indexed = match limits.family {
-        DrawCommandFamily::Draw => false,
-        DrawCommandFamily::DrawIndexed => true,
-    };
     let entry = MetadataEntry::new(
-        indexed,
+        limits.family.is_indexed(),
         src_offset,
         dst_offset as u64,
         limits.vertex_or_index_limit,

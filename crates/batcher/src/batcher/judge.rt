@@ -1,5 +1,5 @@
 ghost use Rattle.std.specs.Prelude.{◌≡◌, ℕ, ◌+◌, ◌-◌, ◌^◌, ◌<◌, ◌≤◌, true, length, take, IfOk, Ok, Err};
-ghost use Rattle.batcher.specs.Judged.{argument_answer, chosen, joined, judged, prepared, terms, wanted};
+ghost use Rattle.batcher.specs.Judged.{chosen, joined, judged, prepared, terms, wanted};
 ghost use Rattle.batcher.specs.Keys.{found};
 ghost use Rattle.batcher.specs.View.{batching};
 ghost use Rattle.command.specs.Family.{is_indexed, src_stride};
@@ -9,9 +9,7 @@ ghost use Rattle.places.specs.Placed.{placed};
 use super::super::records::{BatchKey, DrawIndirectValidationBatch, DrawRequest, IndirectDraw};
 use super::super::search::find;
 use super::DrawBatcher;
-use command::family::{
-    DrawCommandFamily, get_dst_stride_of_indirect_args, get_src_stride_of_indirect_args,
-};
+use command::family::{DrawCommandFamily, check_arguments, get_dst_stride_of_indirect_args};
 use command::refusal::Refusal;
 use command::settings::Settings;
 use command::sizes::Sizes;
@@ -40,20 +38,6 @@ pub struct Chosen {
     pub opens: bool,
     pub asks: bool,
     pub current: CurrentEntry,
-}
-
-// Refusals 12 and 13: the arguments begin at a multiple of four and end inside their source.
-fn check_arguments(family: DrawCommandFamily, size: u64, offset: u64) -> Result<(), Refusal>
-    ensures { result ≡ argument_answer src_stride family size offset }
-{
-    if offset % 4 != 0 {
-        return Err(Refusal::UnalignedIndirectBufferOffset);
-    }
-    let stride = get_src_stride_of_indirect_args(family);
-    if size < stride || offset > size - stride {
-        return Err(Refusal::IndirectBufferOverrun);
-    }
-    Ok(())
 }
 
 // The draw joins the batch of its key, or opens one. A count that no recording has led to is refused.
@@ -132,12 +116,8 @@ fn entry_for(
     requires dst { dst_offset < 2 ^ 32 }
     ensures { result ≡ packed (is_indexed family) src_offset dst_offset request.now.limit request.now.instances }
 {
-    let indexed = match family {
-        DrawCommandFamily::Draw => false,
-        DrawCommandFamily::DrawIndexed => true,
-    };
     let entry = MetadataEntry::new(
-        indexed,
+        family.is_indexed(),
         src_offset,
         dst_offset,
         request.limit,
@@ -203,9 +183,7 @@ impl DrawBatcher {
         ensures within { IfOk result (λ c. (c.draw.batch < length batches.now) × (self.now.draws < length draws.now) × (c.current.index ≤ self.now.draws)) }
         ensures room { IfOk result (λ c. c.opens ≡ true → self.now.batches < length batches.now) }
     {
-        let Some(family) = DrawCommandFamily::from_kind(request.kind) else {
-            return Err(Refusal::UnknownKind);
-        };
+        let family = DrawCommandFamily::try_from(request.kind)?;
         let Some(size) = request.size else {
             return Err(Refusal::NoSuchSource);
         };
