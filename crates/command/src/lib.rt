@@ -2,6 +2,7 @@
 #![tactic(auto)]
 
 pub mod answer;
+pub mod args;
 pub mod family;
 pub mod refusal;
 pub mod settings;
