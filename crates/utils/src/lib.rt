@@ -1,11 +1,13 @@
 // Indices named once each: a guard over mark bytes, and the distinct indices of a list.
 #![tactic(auto)]
 
-ghost use Rattle.std.specs.Prelude.{◌≡◌, ℕ, ◌+◌, ◌<◌, ◌≤◌, true, length, take, if◌then◌else◌, Some, None, ◌==◌, slice_index, slice_set};
+ghost use Rattle.std.specs.Prelude.{◌≡◌, ℕ, ◌≤◌, length, take, if◌then◌else◌, Some, None, IfSome, slice_set};
 ghost use Rattle.utils.specs.Firsts.{firsts, FirstNamed};
 ghost use Rattle.utils.specs.Marks.{wiped, insertion};
-ghost use Rattle.utils.specs.Unique.{all_below, counted, fronted, fits};
+ghost use Rattle.utils.specs.Unique.{counted, fronted, fits};
 
+// No iterator, as the Rust's is: an index may be past the marks, so that each item would be an `Option`, and a loop
+// over such items would be no plainer than one that calls `insert`.
 /// Tells which indices were named already, by one lent byte an index; wipes the bytes when it goes.
 pub struct UniqueIndex<'a> {
     marks: &'a mut [u8],
@@ -36,66 +38,31 @@ impl<'a> UniqueIndex<'a> {
         ensures after { self.new.marks.now ≡ slice_set self.old.marks.now index 1 }
         ensures answer { result ≡ insertion self.old.marks.now index }
     {
-        if index >= self.marks.len() {
-            return None;
-        }
-        Some(self.mark(index))
-    }
-
-    fn mark(&mut self, index: usize) -> bool
-        requires { index < length self.old.marks.now }
-        ensures named { self.new.marks.ghost_name ≡ self.old.marks.ghost_name }
-        ensures after { self.new.marks.now ≡ slice_set self.old.marks.now index 1 }
-        ensures answer { result ≡ (slice_index self.old.marks.now index == 0) }
-    {
-        let first = self.marks[index] == 0;
-        self.marks[index] = 1;
-        first
+        let marks = &mut *self.marks;
+        let mark = *marks.get(index)?;
+        marks[index] = 1;
+        Some(mark == 0)
     }
 }
 
-/// How many distinct indices are named, or `None` where one is past the marks.
-fn count(indices: &[usize], marks: &mut [u8]) -> Option<usize>
+/// Writes the distinct indices to the front of `out`, those that it has room for, and answers how many they are in
+/// all, or `None` where one is past the marks.
+fn write(indices: &[usize], marks: &mut [u8], out: &mut [usize]) -> Option<usize>
     ensures marks { marks.new ≡ wiped marks.old }
     ensures answer { result ≡ counted (length marks.old) indices.now }
+    ensures out { IfSome result (λ n. n ≤ length out.old → out.new ≡ fronted (firsts indices.now) out.old) }
 {
     let mut seen = UniqueIndex::new(marks);
-    let mut found: usize = 0;
+    let mut found = 0;
     for index in indices {
-        let Some(first) = seen.insert(*index) else {
-            return None;
-        };
-        if first {
+        if seen.insert(*index)? {
+            if found < out.len() {
+                out[found] = *index;
+            }
             found += 1;
         }
     }
     Some(found)
-}
-
-/// Writes `index` behind the first `found` of `out`, and answers how many they are then.
-fn push(out: &mut [usize], found: usize, index: usize) -> usize
-    requires { found < length out.old }
-    ensures out { out.new ≡ slice_set out.old found index }
-    ensures count { result ≡ found + 1 }
-{
-    out[found] = index;
-    found + 1
-}
-
-/// Writes the distinct indices to the front of `out`.
-fn write(indices: &[usize], marks: &mut [u8], out: &mut [usize])
-    requires inside { all_below (length marks.old) indices.now ≡ true }
-    requires room { length (firsts indices.now) ≤ length out.old }
-    ensures marks { marks.new ≡ wiped marks.old }
-    ensures out { out.new ≡ fronted (firsts indices.now) out.old }
-{
-    let mut seen = UniqueIndex::new(marks);
-    let mut found: usize = 0;
-    for index in indices {
-        if seen.mark(*index) {
-            found = push(out, found, *index);
-        }
-    }
 }
 
 /// Writes the distinct indices in first-named order to the front of `out` and answers how many they are;
@@ -106,12 +73,10 @@ pub fn unique(indices: &[usize], marks: &mut [u8], out: &mut [usize]) -> Option<
     ensures out { out.new ≡ (if fits (length marks.old) indices.now out.old then fronted (firsts indices.now) out.old else out.old) }
     ensures law { (n : ℕ) → result ≡ Some n → FirstNamed indices.now (take n out.new) }
 {
-    let Some(found) = count(indices, &mut *marks) else {
-        return None;
-    };
+    // counted alone first, with no room to write to, so that `out` stays as it was where the answer is `None`
+    let found = write(indices, &mut *marks, &mut [])?;
     if found > out.len() {
         return None;
     }
-    write(indices, marks, out);
-    Some(found)
+    write(indices, marks, out)
 }

@@ -2,4 +2,5 @@
 #![tactic(auto)]
 
 pub mod batch;
+pub mod error;
 pub mod groups;
