@@ -1,10 +1,12 @@
 -- A place by the rule comes after all the places before it.
-use Rattle.std.proofs.Common.{◌≡◌, ℕ, ◌+◌, ◌^◌, ◌<◌, ◌≤◌, Bool, true, false, cond, ltb, leb, ◌⊎◌, List, [], ◌∷◌, ◌++◌, IfOk, Some, None, Ok, Err, Option, Result, sym, refl, subst, inl, inr, arith, leb-false, leb-true}
+use Rattle.std.proofs.Common.{◌≡◌, ℕ, ◌+◌, ◌<◌, ◌≤◌, Bool, true, false, cond, leb, ◌⊎◌, List, [], ◌∷◌, ◌++◌, Some, None, Ok, Err, Option, sym, refl, subst, inl, inr, arith, leb-false, leb-true}
+use Rattle.std.proofs.lemmas.Option.{cond_some}
+use Rattle.std.proofs.lemmas.Grind.{common_steps}
 use Rattle.std.specs.List.{AllByRecursion}
 use Rattle.command.specs.declared.refusal.Refusal.{Refusal}
 use Rattle.places.specs.declared.current.CurrentEntry.{CurrentEntry}
 use Rattle.places.specs.Laid.{Span, span, Follows, Chained, Laid, EndsAfter, Ends, Apart, Within, Next}
-use Rattle.places.specs.Placed.{entry, placed, past, fresh, answered, current_after}
+use Rattle.places.specs.Placed.{entry, placed, past, fits, numbered, answered}
 
 -- q comes right after the end c of what stands there
 abbrev Continues : ℕ → CurrentEntry → Span → Type 0
@@ -71,22 +73,16 @@ next_placed room size (Some c) (s ∷ ts) l e =
       within = within room c q n;
     }
 
-fresh_ok : (i : ℕ) (b : Bool) (p : CurrentEntry) → cond b (Ok (entry i 0)) (Err Refusal.NoBuffer) ≡ Ok p → entry i 0 ≡ p
-fresh_ok i true p e = cc
-fresh_ok i false p e = let z : ◌≡◌ {A = ℕ} 0 1 = cc in absurd (omega arith)
-
-some_ok : (size room : ℕ) (c : CurrentEntry) (can : ℕ → Bool) (p : CurrentEntry) (b : Bool) → cond b (Ok c) (fresh (c.index + 1) can) ≡ Ok p → cond b c (entry (c.index + 1) 0) ≡ p
-some_ok size room c can p true e = cc
-some_ok size room c can p false e = fresh_ok (c.index + 1) (cond (ltb (c.index + 1) (2 ^ 64)) (can (c.index + 1)) false) p e
+-- the same of a place that is known to be the rule's
+pub next_numbered : (room size : ℕ) (c : Option CurrentEntry) (p : CurrentEntry) → Some p ≡ cond (numbered (placed c size room)) (Some (placed c size room)) None → (spans : List Span) → Laid room spans → Ends c spans → Next room spans (Some (past p size)) (span p size)
+next_numbered room size c p q spans l e =
+    subst (λ (r : CurrentEntry). Next room spans (Some (past r size)) (span r size)) (cond_some _ _ _ (sym q)).1 (next_placed room size c spans l e)
 
 pub answered_ok : (c : Option CurrentEntry) (size room : ℕ) (can : ℕ → Bool) (p : CurrentEntry) → answered c size room can ≡ Ok p → placed c size room ≡ p
-answered_ok None size room can p e = fresh_ok 0 (cond (ltb 0 (2 ^ 64)) (can 0) false) p e
-answered_ok (Some c) size room can p e = some_ok size room c can p (leb (c.offset + size) room) e
+answered_ok None size room can p e = grind (arith, common_steps)
+answered_ok (Some c) size room can p e = grind (arith, common_steps)
 
--- the same of what a supply answers
-pub next_answered : (room size : ℕ) (c : Option CurrentEntry) (can : ℕ → Bool) (r : Result CurrentEntry Refusal) (d : Option CurrentEntry) → r ≡ answered c size room can → d ≡ current_after r size c → (spans : List Span) → Laid room spans → Ends c spans → IfOk r (λ p. Next room spans d (span p size))
-next_answered room size c can (Err x) d e f spans l n = tt
-next_answered room size c can (Ok p) d e f spans l n =
-    let g : placed c size room ≡ p = answered_ok c size room can p (sym e) in
-    let h : Next room spans (Some (past p size)) (span p size) = subst (λ (q : CurrentEntry). Next room spans (Some (past q size)) (span q size)) g (next_placed room size c spans l n) in
-    subst (λ (x : Option CurrentEntry). Next room spans x (span p size)) (sym f) h
+-- no supply has a buffer whose number is past 64 bits
+pub answered_past : (c : Option CurrentEntry) (size room : ℕ) (can : ℕ → Bool) → (fits c size room ≡ true → None ≡ c) → numbered (placed c size room) ≡ false → answered c size room can ≡ Err Refusal.NoBuffer
+answered_past None size room can f e = grind (arith, common_steps)
+answered_past (Some c) size room can f e = grind (arith, common_steps)

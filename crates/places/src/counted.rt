@@ -46,14 +46,10 @@ impl Supply for Counted {
     }
 
     fn ensure(&mut self, index: usize) -> bool {
-        if index < self.held {
-            return true;
-        }
         if index == self.held && self.left > 0 {
             self.held += 1;
             self.left -= 1;
-            return true;
         }
-        false
+        index < self.held
     }
 }
