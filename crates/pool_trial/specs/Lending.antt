@@ -1,16 +1,18 @@
 -- One kind's buffers over a device, as a supply.
 use Rattle.std.specs.Prelude.{ℕ, ◌+◌, ◌-◌, min, cond, length, nat_lt}
 use Rattle.places.specs.Supplies.{gives}
-use Rattle.pool_trial.specs.declared.kinds.PoolKind.{PoolKind}
+use Rattle.device.specs.declared.buffers.PoolKind.{PoolKind}
 use Rattle.pool_trial.specs.Making.{Making, one_made}
-use Rattle.pool_trial.specs.Stock.{Stock, top, popped, pushed}
+use Rattle.pool_trial.specs.Stock.{popped, pushed}
+use Rattle.pool_trial.specs.Tops.{top}
+use Rattle.pool_trial.specs.declared.tables.Tables.{Tables}
 
 pub record Lending : Type 0 where
   pub kind : PoolKind
-  pub stock : Stock
+  pub stock : Tables
   pub device : Making
 
-abbrev pub lend : PoolKind → Stock → Making → Lending
+abbrev pub lend : PoolKind → Tables → Making → Lending
 lend k s m = record { kind = k; stock = s; device = m }
 
 abbrev pub held_of : Lending → ℕ

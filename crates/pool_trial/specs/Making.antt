@@ -1,6 +1,6 @@
 -- A device that makes buffers: those made, in order, and how many more it can make.
 use Rattle.std.specs.Prelude.{ℕ, ◌-◌, cond, List, [], ◌∷◌, ◌++◌, length, Some, None, Option, nat_lt}
-use Rattle.pool_trial.specs.declared.kinds.PoolKind.{PoolKind}
+use Rattle.device.specs.declared.buffers.PoolKind.{PoolKind}
 
 pub record Making : Type 0 where
   pub made : List PoolKind

@@ -4,24 +4,24 @@ use Rattle.command.specs.declared.refusal.Refusal.{Refusal}
 use Rattle.places.specs.declared.current.CurrentEntry.{CurrentEntry}
 use Rattle.places.specs.Placed.{fits, following, answered, current_after, supply_after}
 use Rattle.places.specs.Supplies.{grants}
-use Rattle.pool_trial.specs.declared.kinds.PoolKind.TheVariants.{Destination}
+use Rattle.device.specs.declared.buffers.PoolKind.TheVariants.{Destination}
 use Rattle.pool_trial.specs.declared.recorder.Recorder.{Recorder}
 use Rattle.pool_trial.specs.Lending.{Lending, lend, held_of, more_of, lending}
 use Rattle.pool_trial.specs.Making.{Making}
-use Rattle.pool_trial.specs.Stock.{Stock, stocked}
+use Rattle.pool_trial.specs.declared.tables.Tables.{Tables}
 
 pub record Recording : Type 0 where
   pub device : Making
-  pub destination : Stock
-  pub metadata : Stock
+  pub destination : Tables
+  pub metadata : Tables
   pub current_destination : Option CurrentEntry
   pub current_metadata : Option CurrentEntry
 
 abbrev pub recording : {D : Type 0} → (D → Making) → Recorder D → Recording
 recording means r = record {
   device = means r.device;
-  destination = stocked r.destination;
-  metadata = stocked r.metadata;
+  destination = r.destination;
+  metadata = r.metadata;
   current_destination = r.current_destination;
   current_metadata = r.current_metadata;
 }

@@ -1,11 +1,9 @@
 ghost use Rattle.std.specs.Prelude.{◌≡◌, ℕ, ◌+◌, List, [], ◌∷◌};
 ghost use Rattle.pool_trial.specs.Lending.{Lending, lend, held_of, more_of, lending};
-ghost use Rattle.pool_trial.specs.Stock.{stocked};
 
-use super::grow::{capacity_of, ensure_in};
-use super::kinds::PoolKind;
 use super::maker::Maker;
 use super::tables::Tables;
+use device::buffers::PoolKind;
 use places::supply::Supply;
 
 /// One kind's tables and the device, lent for a call: a supply.
@@ -19,7 +17,7 @@ pub struct Lent<'a, D> {
 impl<D: Maker> Supply for Lent<'_, D> {
     ghost View = { Lending };
 
-    ghost view = { λ s. lend s.kind (stocked s.tables.now) (D.Maker.means s.device.now) };
+    ghost view = { λ s. lend s.kind s.tables.now (D.Maker.means s.device.now) };
 
     ghost held = { held_of };
 
@@ -30,10 +28,24 @@ impl<D: Maker> Supply for Lent<'_, D> {
     ghost names = { λ s. s.tables.ghost_name ∷ s.device.ghost_name ∷ [] };
 
     fn capacity(&self) -> usize {
-        capacity_of(self.tables, self.device, self.kind)
+        let stocked = self.tables.members.len() + self.tables.free.len();
+        self.device.makeable().saturating_add(stocked).min(256)
     }
 
+    /// A new member is the top of the free stack, or else one that the device makes.
     fn ensure(&mut self, index: usize) -> bool {
-        ensure_in(self.tables, self.device, self.kind, index)
+        let count = self.tables.members.len();
+        if index != count || count == 256 {
+            return index < count;
+        }
+        // no `or_else`, whose closure would change the device: a proof knows nothing of the device after it
+        let found = match self.tables.free.pop() {
+            None => self.device.make(self.kind),
+            top => top,
+        };
+        if let Some(buffer) = found {
+            self.tables.members.push(buffer);
+        }
+        found.is_some()
     }
 }

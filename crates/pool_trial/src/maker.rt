@@ -1,8 +1,9 @@
 ghost use Rattle.pool_trial.specs.Making.{Making, makes, making};
 ghost use Rattle.std.specs.Prelude.{◌≡◌};
 
-use super::kinds::PoolKind;
+use device::buffers::PoolKind;
 
+// Not `device::interface::Device`, of which a pool needs one call: the trial's meaning of that call is two lines.
 /// A device with one call, and a question that tells how often it will be met.
 pub trait Maker {
     ghost means: { Self → Making };

@@ -1,22 +1,24 @@
-ghost use Rattle.pool_trial.specs.Recording.{recording, destination_answer, destination_after, of_destination, Inside};
-ghost use Rattle.places.specs.Placed.{Stocked};
-ghost use Rattle.pool_trial.specs.Lending.{held_of, more_of};
+ghost use Rattle.pool_trial.specs.Recording.{recording, destination_answer, destination_after, Inside};
 ghost use Rattle.std.specs.Prelude.{◌≡◌};
 
-use super::kinds::PoolKind;
 use super::lent::Lent;
 use super::maker::Maker;
 use super::recorder::Recorder;
 use command::refusal::Refusal;
+use device::buffers::PoolKind;
 use places::current::CurrentEntry;
 use places::subrange::get_subrange_impl;
 
 impl<D: Maker> Recorder<D> {
-    // The answer and all that is left after it; the law stands on `destination_place`.
-    fn take_destination(&mut self, size: u64, buffer_size: u64) -> Result<CurrentEntry, Refusal>
+    /// The place of a draw's arguments. The current place is in a member after it if it was before.
+    pub fn destination_place(
+        &mut self,
+        size: u64,
+        buffer_size: u64,
+    ) -> Result<CurrentEntry, Refusal>
         ensures answer { result ≡ destination_answer size buffer_size (recording D.Maker.means self.old) }
         ensures after { recording D.Maker.means self.new ≡ destination_after size buffer_size (recording D.Maker.means self.old) }
-        ensures stock { Stocked (recording D.Maker.means self.old).current_destination (held_of (of_destination (recording D.Maker.means self.old))) (more_of (of_destination (recording D.Maker.means self.old))) (held_of (of_destination (recording D.Maker.means self.new))) (more_of (of_destination (recording D.Maker.means self.new))) result }
+        ensures inside { Inside (recording D.Maker.means self.old) → Inside (recording D.Maker.means self.new) }
     {
         let mut supply = Lent {
             tables: &mut self.destination,
@@ -29,18 +31,5 @@ impl<D: Maker> Recorder<D> {
             size,
             buffer_size,
         )
-    }
-
-    /// The place of a draw's arguments. The current place is in a member after it if it was before.
-    pub fn destination_place(
-        &mut self,
-        size: u64,
-        buffer_size: u64,
-    ) -> Result<CurrentEntry, Refusal>
-        ensures answer { result ≡ destination_answer size buffer_size (recording D.Maker.means self.old) }
-        ensures after { recording D.Maker.means self.new ≡ destination_after size buffer_size (recording D.Maker.means self.old) }
-        ensures inside { Inside (recording D.Maker.means self.old) → Inside (recording D.Maker.means self.new) }
-    {
-        self.take_destination(size, buffer_size)
     }
 }

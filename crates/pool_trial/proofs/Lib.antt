@@ -1,3 +1,0 @@
-pub mod Fronts
-pub mod Insides
-pub mod Lendings
