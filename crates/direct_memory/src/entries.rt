@@ -35,7 +35,7 @@ pub(crate) fn all_inside(entries: &[u32], window: usize, destination: usize) -> 
 {
     let mut left = entries;
     while let [source, place, limit, instances, rest @ ..] = left {
-        let entry = MetadataEntry::from_words([*source, *place, *limit, *instances]);
+        let entry = MetadataEntry::from([*source, *place, *limit, *instances]);
         if !is_inside(&entry, window, destination) {
             return false;
         }
@@ -49,7 +49,7 @@ fn entry_at(words: &[u32], at: usize) -> MetadataEntry
     requires { at + 4 ≤ length words.now }
     ensures { result ≡ entry_from (drop at words.now) }
 {
-    MetadataEntry::from_words([words[at], words[at + 1], words[at + 2], words[at + 3]])
+    MetadataEntry::from([words[at], words[at + 1], words[at + 2], words[at + 3]])
 }
 
 /// Writes what the check of one entry leaves of its arguments to its place in the destination.

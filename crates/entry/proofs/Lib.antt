@@ -1,3 +1,1 @@
-pub mod Packs
-pub mod Taken
 pub mod Windows

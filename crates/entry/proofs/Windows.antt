@@ -1,8 +1,8 @@
 -- The law of windows.
-use Rattle.std.proofs.Common.{◌≡◌, ℕ, ◌+◌, ◌-◌, ◌*◌, ◌/◌, ◌%◌, ◌<◌, ◌≤◌, min, true, cond, eqb, leb, sym, refl, ap, ◌∙◌, ⊎_elim, mod-lt, mul_assoc, add-mul, div-add-mod', sub-add_cancel, div-mul-le_self, arith}
-use native.Mathlib.Nat.{mul-mod_left, lt-div-mul-add, min-eq_left, min-eq_right, zero-mod}
+use Rattle.std.proofs.Common.{◌≡◌, ℕ, ◌+◌, ◌-◌, ◌*◌, ◌/◌, ◌%◌, ◌<◌, ◌≤◌, min, true, sym, ap, ◌∙◌, ⊎_elim, mod-lt, mul_assoc, add-mul, div-add-mod', sub-add_cancel, div-mul-le_self, arith}
+use native.Mathlib.Nat.{mul-mod_left, lt-div-mul-add, zero-mod}
 use Rattle.std.proofs.lemmas.Nat.{le-div, mul-le}
-use Rattle.std.proofs.lemmas.Bool.{cases_lt, cond_both, cond-true, le-leb, leb-true, leb-false}
+use Rattle.std.proofs.lemmas.Bool.{cases_lt}
 use Rattle.std.proofs.lemmas.Bool.Decides.{nat_tests}
 use Rattle.command.specs.Lawful.{lawful}
 use Rattle.entry.specs.Window.{binding_size_of, offset_stride, stepped_offset, src_offsets, WindowLaw}
@@ -15,8 +15,7 @@ record Steps (a m s b : ℕ) : Type 0 where
   pub bounded : b ≤ m
 
 min_mod : (x y a : ℕ) → x % a ≡ 0 → y % a ≡ 0 → min x y % a ≡ 0
-min_mod x y a p q =
-    ⊎_elim (λ h. let e : min x y ≡ x = min-eq_left (omega arith) in rw e p) (λ h. let e : min x y ≡ y = min-eq_right h in rw e q) (cases_lt x y)
+min_mod x y a p q = grind arith
 
 module _ (a m s : ℕ) (pos : 0 < a) (wide : 2 * a + 20 ≤ m) (more : m < s) where
   quotients : m / a ≤ s / a
@@ -35,10 +34,7 @@ module _ (a m s : ℕ) (pos : 0 < a) (wide : 2 * a + 20 ≤ m) (more : m < s) wh
       record { count = s / a - m / a + 1; reaches = omega (arith, one_more, between, div-add-mod' s a, div-add-mod' m a, mod-lt m pos); room = omega (arith, mod-lt m pos); bounded = omega (arith, mod-lt m pos, mod-lt s pos) }
 
   steps : Steps a m s (binding_size_of a m s)
-  steps =
-      cond_both (leb s m) s (cond (leb (s % a) (m % a)) (m - m % a + s % a) (m - m % a - a + s % a)) (Steps a m s)
-      (λ e. absurd (omega (arith, leb-true s m e)))
-      (λ _. cond_both (leb (s % a) (m % a)) (m - m % a + s % a) (m - m % a - a + s % a) (Steps a m s) (λ e. steps_low (leb-true (s % a) (m % a) e)) (λ e. steps_high (leb-false (s % a) (m % a) e)))
+  steps = grind (arith, nat_tests, steps_low, steps_high)
 
 -- windows that begin a stride apart, the last no later than the source's end allows
 module _ (a m s o d b : ℕ) (pos : 0 < a) (fits : Steps a m s b) (small : d ≤ 20) (lies : o + d ≤ s) where
@@ -73,10 +69,10 @@ module _ (a m s o d b : ℕ) (pos : 0 < a) (fits : Steps a m s b) (small : d ≤
 -- one window over the whole of a source that is no longer than a window may be
 module _ (a m s o d : ℕ) (fewer : s ≤ m) (lies : o + d ≤ s) where
   binding_is : binding_size_of a m s ≡ s
-  binding_is = cond-true (leb s m) s (cond (leb (s % a) (m % a)) (m - m % a + s % a) (m - m % a - a + s % a)) (le-leb s m fewer)
+  binding_is = grind (arith, nat_tests)
 
   starts : (e : ℕ) → stepped_offset s e s o ≡ 0
-  starts e = cond_both (eqb e 0) 0 (min (s - s) (o / e * e)) (λ x. x ≡ 0) (λ _. refl) (λ _. omega arith)
+  starts e = grind (arith, nat_tests)
 
   single_law : WindowLaw a m s o d (binding_size_of a m s) (src_offsets a m s o)
   single_law =

@@ -1,5 +1,6 @@
 -- What the check of one entry leaves of the arguments that it reads in its window.
 use Rattle.std.specs.Prelude.{ℕ, ◌+◌, ◌/◌, Bool, cond, ◌&&◌, ◌||◌, List, length, take, drop, replicate, Some, None, Option, ◌==◌, nat_le, slice_index}
+use Rattle.command.specs.declared.args.DrawArgs.{DrawArgs}
 use Rattle.command.specs.declared.family.DrawCommandFamily.{DrawCommandFamily}
 use Rattle.command.specs.declared.family.DrawCommandFamily.TheVariants.{Draw, DrawIndexed}
 use Rattle.entry.specs.declared.metadata.Unpacked.{Unpacked}
@@ -49,3 +50,7 @@ argument_family (arguments.DrawIndexed ws) = DrawIndexed
 abbrev pub words_of : Option Arguments → Option (List ℕ)
 words_of None = None
 words_of (Some a) = Some (argument_words a)
+
+-- the four words that the limits are about
+abbrev pub draw_args_of : Arguments → DrawArgs
+draw_args_of a = let ws = argument_words a in record { count = slice_index ws 0; instances = slice_index ws 1; first = slice_index ws 2; first_instance = slice_index ws (first_instance_at (argument_family a)) }

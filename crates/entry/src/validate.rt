@@ -1,9 +1,9 @@
-ghost use Rattle.std.specs.Prelude.{◌≡◌, ℕ, ◌/◌, ◌%◌, ◌^◌, ◌<◌, Bool, [], ◌∷◌, length, if◌then◌else◌, Some, None, nat_le, slice_index};
-ghost use Rattle.command.specs.declared.family.DrawCommandFamily.TheVariants.{Draw as Plain, DrawIndexed as Indexed};
+ghost use Rattle.std.specs.Prelude.{◌≡◌, ℕ, ◌/◌, ◌%◌, ◌^◌, ◌<◌, Bool, Some, replicate};
 ghost use Rattle.entry.specs.Entries.{Alike, family_by, packed, unpacked};
-ghost use Rattle.entry.specs.Verdicts.{argument_family, argument_words, checked, judged, kept, verdict, words_of};
+ghost use Rattle.entry.specs.Verdicts.{argument_family, argument_words, checked, draw_args_of, judged, kept, read_arguments, verdict, word_count, words_of};
 
 use super::metadata::{MetadataEntry, Unpacked};
+use command::args::DrawArgs;
 use command::family::DrawCommandFamily;
 
 /// The words that a check writes to the destination.
@@ -14,6 +14,25 @@ pub enum Arguments {
 }
 
 impl Arguments {
+    /// The arguments of a draw that begin the words, or nothing where the words do not hold them all.
+    fn read(family: DrawCommandFamily, words: &[u32]) -> Option<Arguments>
+        ensures words { words_of result ≡ read_arguments family 0 words.now }
+        ensures kind { (a : Arguments) → result ≡ Some a → argument_family a ≡ family }
+    {
+        let [count, instances, first, rest @ ..] = words else {
+            return None;
+        };
+        match (family, rest) {
+            (DrawCommandFamily::Draw, [first_instance, ..]) => {
+                Some(Arguments::Draw([*count, *instances, *first, *first_instance]))
+            }
+            (DrawCommandFamily::DrawIndexed, [base_vertex, first_instance, ..]) => Some(
+                Arguments::DrawIndexed([*count, *instances, *first, *base_vertex, *first_instance]),
+            ),
+            _ => None,
+        }
+    }
+
     /// The words in the order in which a draw reads them.
     pub fn words(&self) -> &[u32]
         ensures { result.now ≡ argument_words self.now }
@@ -23,78 +42,57 @@ impl Arguments {
             Arguments::DrawIndexed(words) => words,
         }
     }
+
+    /// The four words that the limits are about.
+    fn draw_args(&self) -> DrawArgs
+        ensures { result ≡ draw_args_of self.now }
+    {
+        let [count, instances, first, first_instance] = match self {
+            Arguments::Draw(words) => *words,
+            Arguments::DrawIndexed(words) => {
+                let [count, instances, first, _, first_instance] = *words;
+                [count, instances, first, first_instance]
+            }
+        };
+        DrawArgs {
+            count,
+            instances,
+            first,
+            first_instance,
+        }
+    }
+
+    /// Arguments of the same kind that draw nothing.
+    fn zeros(&self) -> Arguments
+        ensures words { argument_words result ≡ replicate (word_count (argument_family self.now)) 0 }
+        ensures kind { argument_family result ≡ argument_family self.now }
+    {
+        match self {
+            Arguments::Draw(_) => Arguments::Draw([0; 4]),
+            Arguments::DrawIndexed(_) => Arguments::DrawIndexed([0; 5]),
+        }
+    }
 }
 
 impl Unpacked {
     /// Whether a draw keeps to both limits and to the rule on first instances.
-    fn keeps(
-        &self,
-        first_instance_allowed: bool,
-        count: u32,
-        instances: u32,
-        first: u32,
-        first_instance: u32,
-    ) -> bool
-        ensures { (l il : ℕ) → Alike self.now.vertex_or_index_limit l → Alike self.now.instance_limit il → result ≡ kept first_instance_allowed l il count instances first first_instance }
+    fn keeps(&self, first_instance_allowed: bool, args: DrawArgs) -> bool
+        ensures { (l il : ℕ) → Alike self.now.vertex_or_index_limit l → Alike self.now.instance_limit il → result ≡ kept first_instance_allowed l il args.count args.instances args.first args.first_instance }
     {
-        let last = u64::from(first) + u64::from(count);
-        let last_instance = u64::from(first_instance) + u64::from(instances);
-        last <= self.vertex_or_index_limit
-            && last_instance <= self.instance_limit
-            && (first_instance == 0 || first_instance_allowed)
+        args.last() <= self.vertex_or_index_limit
+            && args.last_instance() <= self.instance_limit
+            && (args.first_instance == 0 || first_instance_allowed)
     }
 
-    /// The arguments of a draw as they are to be written; `rest` is what follows its first three words.
-    fn judge_draw(
-        &self,
-        first_instance_allowed: bool,
-        count: u32,
-        instances: u32,
-        first: u32,
-        rest: &[u32],
-    ) -> Option<Arguments>
-        ensures { (l il : ℕ) → Alike self.now.vertex_or_index_limit l → Alike self.now.instance_limit il → result ≡ (if nat_le 1 (length rest.now) then Some (Arguments.Draw (judged first_instance_allowed Plain l il (count ∷ instances ∷ first ∷ slice_index rest.now 0 ∷ []))) else None) }
+    /// The arguments as they are to be written: unaltered where they keep to the limits, else zeros.
+    fn judge(&self, first_instance_allowed: bool, arguments: Arguments) -> Arguments
+        ensures words { (l il : ℕ) → Alike self.now.vertex_or_index_limit l → Alike self.now.instance_limit il → argument_words result ≡ judged first_instance_allowed (argument_family arguments) l il (argument_words arguments) }
+        ensures kind { argument_family result ≡ argument_family arguments }
     {
-        let [first_instance, ..] = rest else {
-            return None;
-        };
-        if self.keeps(
-            first_instance_allowed,
-            count,
-            instances,
-            first,
-            *first_instance,
-        ) {
-            Some(Arguments::Draw([count, instances, first, *first_instance]))
+        if self.keeps(first_instance_allowed, arguments.draw_args()) {
+            arguments
         } else {
-            Some(Arguments::Draw([0; 4]))
-        }
-    }
-
-    /// The arguments of an indexed draw as they are to be written; `rest` is what follows its first three words.
-    fn judge_draw_indexed(
-        &self,
-        first_instance_allowed: bool,
-        count: u32,
-        instances: u32,
-        first: u32,
-        rest: &[u32],
-    ) -> Option<Arguments>
-        ensures { (l il : ℕ) → Alike self.now.vertex_or_index_limit l → Alike self.now.instance_limit il → result ≡ (if nat_le 2 (length rest.now) then Some (Arguments.DrawIndexed (judged first_instance_allowed Indexed l il (count ∷ instances ∷ first ∷ slice_index rest.now 0 ∷ slice_index rest.now 1 ∷ []))) else None) }
-    {
-        let [base_vertex, first_instance, ..] = rest else {
-            return None;
-        };
-        if self.keeps(
-            first_instance_allowed,
-            count,
-            instances,
-            first,
-            *first_instance,
-        ) {
-            Some(Arguments::DrawIndexed([count, instances, first, *base_vertex, *first_instance]))
-        } else {
-            Some(Arguments::DrawIndexed([0; 5]))
+            arguments.zeros()
         }
     }
 
@@ -103,25 +101,9 @@ impl Unpacked {
         ensures words { (l il : ℕ) → Alike self.now.vertex_or_index_limit l → Alike self.now.instance_limit il → words_of result ≡ checked first_instance_allowed self.now.family (self.now.src_offset / 4) l il window.now }
         ensures kind { (a : Arguments) → result ≡ Some a → argument_family a ≡ self.now.family }
     {
-        let offset = (self.src_offset / 4) as usize;
-        if offset > window.len() {
-            return None;
-        }
-        let [count, instances, first, rest @ ..] = &window[offset..] else {
-            return None;
-        };
-        match self.family {
-            DrawCommandFamily::Draw => self.judge_draw(
-                first_instance_allowed,
-                *count,
-                *instances,
-                *first,
-                rest,
-            ),
-            DrawCommandFamily::DrawIndexed => {
-                self.judge_draw_indexed(first_instance_allowed, *count, *instances, *first, rest)
-            }
-        }
+        let words = window.get((self.src_offset / 4) as usize..)?;
+        let arguments = Arguments::read(self.family, words)?;
+        Some(self.judge(first_instance_allowed, arguments))
     }
 }
 

@@ -13,6 +13,8 @@ pub struct SrcOffsets {
     pub offset: u64,
 }
 
+// The parameters that the three functions share stand apart, as in the Rust that they follow.
+
 /// Returns the largest binding size that when combined with dynamic offsets can address the whole buffer.
 pub fn calculate_src_buffer_binding_size(buffer_size: u64, settings: &Settings) -> u64
     ensures { result ≡ binding_size_of settings.now.alignment settings.now.largest_binding buffer_size }

@@ -5,7 +5,7 @@ use places::current::CurrentEntry;
 use places::subrange::get_subrange_impl;
 use render::bindings::Bindings;
 use render::steps::RawStep;
-use validation::follow::{Followed, Source, follow};
+use validation::follow::{Followed, Request, Rules, Source, follow};
 
 /// Bytes of an order to draw: four numbers of four bytes.
 pub const ORDER_BYTES: u64 = 16;
@@ -61,18 +61,19 @@ impl Scene {
         let Ok(dst_offset) = u32::try_from(self.place.offset) else {
             return Err(Refusal::NoBuffer);
         };
-        let source = Source {
-            size: ORDER_BYTES,
-            words: order,
+        let rules = Rules {
+            settings: self.settings,
+            first_instance_allowed: false,
         };
-        follow(
-            &self.bindings,
-            &self.settings,
-            0,
-            source,
-            0,
+        let request = Request {
+            kind: 0,
+            source: Source {
+                size: ORDER_BYTES,
+                words: order,
+            },
+            offset: 0,
             dst_offset,
-            false,
-        )
+        };
+        follow(&self.bindings, &rules, &request)
     }
 }

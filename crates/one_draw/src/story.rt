@@ -104,7 +104,7 @@ fn tell_place(rt: &HostRuntime, scene: &Scene) -> io::Result<()> {
 }
 
 fn tell_entry(rt: &HostRuntime, entry: &MetadataEntry) -> io::Result<()> {
-    let words = entry.words();
+    let words = <[u32; 4]>::from(*entry);
     let unpacked = entry.unpack();
     let limit = unpacked.vertex_or_index_limit;
     let copies = unpacked.instance_limit;

@@ -7,6 +7,8 @@ use Rattle.render.specs.Carries.{Carries}
 use Rattle.entry.specs.Entries.{unpacked}
 use Rattle.entry.specs.Verdicts.{word_count, first_instance_at, verdict, argument_words}
 use Rattle.validation.specs.declared.follow.Followed.{Followed}
+use Rattle.validation.specs.declared.follow.Request.{Request}
+use Rattle.validation.specs.declared.follow.Rules.{Rules}
 use Rattle.validation.specs.Follows.{arguments_at, window_words}
 
 -- what is bound carries the draw of these words
@@ -19,11 +21,11 @@ FirstInstanceRule allowed f ws = (slice_index ws (first_instance_at f) ≡ 0) �
 
 -- The source holds all of the draw's words, and the check of the packed entry reads them in its window. They are drawn
 -- unaltered exactly where what is bound carries them and the first instance may be what it is, and else as many zeros.
-pub record DrawnLaw (b : Bound) (a m size : ℕ) (ws : List ℕ) (offset : ℕ) (allowed : Bool) (f : Followed) : Type 0 where
-  pub whole : length (arguments_at f.limits.family offset ws) ≡ word_count f.limits.family
-  pub inside : verdict allowed (unpacked f.entry) (window_words a m size offset ws) ≡ Some (argument_words f.arguments)
-  pub unaltered : CarriesWords b f.limits.family (arguments_at f.limits.family offset ws) → FirstInstanceRule allowed f.limits.family (arguments_at f.limits.family offset ws) → argument_words f.arguments ≡ arguments_at f.limits.family offset ws
-  pub zeroed : (CarriesWords b f.limits.family (arguments_at f.limits.family offset ws) × FirstInstanceRule allowed f.limits.family (arguments_at f.limits.family offset ws) → ⊥) → argument_words f.arguments ≡ replicate (word_count f.limits.family) 0
+pub record DrawnLaw (b : Bound) (r : Rules) (q : Request) (f : Followed) : Type 0 where
+  pub whole : length (arguments_at f.limits.family q) ≡ word_count f.limits.family
+  pub inside : verdict r.first_instance_allowed (unpacked f.entry) (window_words r.settings q) ≡ Some (argument_words f.arguments)
+  pub unaltered : CarriesWords b f.limits.family (arguments_at f.limits.family q) → FirstInstanceRule r.first_instance_allowed f.limits.family (arguments_at f.limits.family q) → argument_words f.arguments ≡ arguments_at f.limits.family q
+  pub zeroed : (CarriesWords b f.limits.family (arguments_at f.limits.family q) × FirstInstanceRule r.first_instance_allowed f.limits.family (arguments_at f.limits.family q) → ⊥) → argument_words f.arguments ≡ replicate (word_count f.limits.family) 0
 
-abbrev pub LawAnswered : Bound → (a m size : ℕ) → List ℕ → (offset : ℕ) → (allowed : Bool) → Result Followed Refusal → Type 0
-LawAnswered b a m size ws offset allowed r = IfOk r (DrawnLaw b a m size ws offset allowed)
+abbrev pub LawAnswered : Bound → Rules → Request → Result Followed Refusal → Type 0
+LawAnswered b r q answer = IfOk answer (DrawnLaw b r q)

@@ -1,12 +1,8 @@
-ghost use Rattle.std.specs.Prelude.{◌≡◌, ℕ, ◌+◌, ◌-◌, ◌/◌, ◌%◌, ◌^◌, ◌<◌, ◌≤◌, Bool, true, length, take, drop, Some, Ok, OnOk};
+ghost use Rattle.std.specs.Prelude.{◌≡◌, ℕ, ◌+◌, ◌/◌, ◌^◌, ◌<◌, ◌≤◌, length, take, drop, Ok, OnOk, slice_index};
 ghost use Rattle.command.specs.Checks.{first};
-ghost use Rattle.command.specs.Family.{src_stride};
-ghost use Rattle.entry.specs.Entries.{family_by, packed, unpacked};
-ghost use Rattle.entry.specs.Verdicts.{argument_family, checked, verdict, words_of};
-ghost use Rattle.entry.specs.Window.{WindowLaw, binding_size_of, src_offsets, window_offset};
 ghost use Rattle.render.specs.Bound.{Bound, bound};
 ghost use Rattle.render.specs.Laws.{LimitsDecide};
-ghost use Rattle.validation.specs.Follows.{entry_for, follow_answer, followed, is_source, limited_answer, source_checks};
+ghost use Rattle.validation.specs.Follows.{Stands, entry_for, follow_answer, followed, source_checks};
 ghost use Rattle.validation.specs.Laws.{DrawnLaw, LawAnswered};
 
 use command::family::{DrawCommandFamily, check_arguments};
@@ -39,20 +35,47 @@ pub struct Followed {
     pub arguments: Arguments,
 }
 
-/// Judges the source, then the offset.
-fn check_source(
-    family: DrawCommandFamily,
-    size: u64,
-    words: &[u32],
-    offset: u64,
-) -> Result<(), Refusal>
-    ensures answer { result ≡ first (source_checks family size words.now offset) (Ok tt) }
-    ensures accepted { OnOk result ((is_source size words.now ≡ true) × (offset % 4 ≡ 0) × (offset + src_stride family ≤ size)) }
-{
-    if size > 4_294_967_295 || words.len() as u64 != size.div_ceil(4) {
-        return Err(Refusal::NoSuchSource);
+/// By what a device checks its draws.
+#[derive(Clone, Copy)]
+pub struct Rules {
+    pub settings: Settings,
+    pub first_instance_allowed: bool,
+}
+
+/// An indirect draw as it is asked for.
+#[derive(Clone, Copy)]
+pub struct Request<'a> {
+    pub kind: u64,
+    pub source: Source<'a>,
+    /// The byte of the source at which its arguments begin.
+    pub offset: u64,
+    /// The byte of the destination at which its words are to be written.
+    pub dst_offset: u32,
+}
+
+impl Source<'_> {
+    /// Judges the source, then where the arguments of a draw stand in it.
+    fn check(&self, family: DrawCommandFamily, offset: u64) -> Result<(), Refusal>
+        ensures answer { result ≡ first (source_checks family self.now offset) (Ok tt) }
+        ensures accepted { OnOk result (Stands self.now family offset) }
+    {
+        if self.size > u64::from(u32::MAX) || self.words.len() as u64 != self.size.div_ceil(4) {
+            return Err(Refusal::NoSuchSource);
+        }
+        check_arguments(family, self.size, offset)
     }
-    check_arguments(family, size, offset)
+}
+
+/// The whole words of the window that begins at byte `start` of a source and is `size` bytes long.
+// It takes words and no `Source`: that each is of 32 bits is known of a slice, and not of a field behind a reference.
+fn window_in(words: &[u32], start: u64, size: u64) -> &[u32]
+    requires { start / 4 + size / 4 ≤ length words.now }
+    ensures value { result.now ≡ take (size / 4) (drop (start / 4) words.now) }
+    ensures fit { (k : ℕ) → slice_index words.now k < 2 ^ 32 }
+{
+    let start = (start / 4) as usize;
+    let count = (size / 4) as usize;
+    &words[start..start + count]
 }
 
 /// The packed entry of a draw.
@@ -60,151 +83,43 @@ fn pack(limits: DrawLimits, src_offset: u64, dst_offset: u32) -> MetadataEntry
     requires { src_offset < 2 ^ 32 }
     ensures { result ≡ entry_for limits src_offset dst_offset }
 {
-    let entry = MetadataEntry::new(
+    MetadataEntry::new(
         limits.family.is_indexed(),
         src_offset,
-        dst_offset as u64,
+        u64::from(dst_offset),
         limits.vertex_or_index_limit,
         limits.instance_limit,
-    );
-    entry.unwrap()
-}
-
-/// The check of an entry in the window that begins at byte `start` of the source and is `size` bytes long.
-fn check_in_window(
-    entry: &MetadataEntry,
-    words: &[u32],
-    start: u64,
-    size: u64,
-    first_instance_allowed: bool,
-) -> Option<Arguments>
-    requires { start / 4 + size / 4 ≤ length words.now }
-    ensures words { words_of result ≡ verdict first_instance_allowed (unpacked entry.now) (take (start / 4 + size / 4 - start / 4) (drop (start / 4) words.now)) }
-    ensures kind { (a : Arguments) → result ≡ Some a → argument_family a ≡ (unpacked entry.now).family }
-    ensures uncut { (indexed : Bool) (src dst l1 l2 : ℕ) → src % 4 ≡ 0 → src < 2 ^ 32 → dst < 2 ^ 32 → entry.now ≡ packed indexed src dst l1 l2 → words_of result ≡ checked first_instance_allowed (family_by indexed) (src / 4) l1 l2 (take (start / 4 + size / 4 - start / 4) (drop (start / 4) words.now)) }
-{
-    let start = (start / 4) as usize;
-    let count = (size / 4) as usize;
-    entry.validate(&words[start..start + count], first_instance_allowed)
-}
-
-/// A draw before its check: all that does not depend on its arguments.
-#[derive(Clone, Copy)]
-struct Prepared {
-    binding_size: u64,
-    window: SrcOffsets,
-    entry: MetadataEntry,
-}
-
-/// Where the draw's window lies, and its packed entry.
-fn prepare(
-    limits: DrawLimits,
-    settings: &Settings,
-    size: u64,
-    offset: u64,
-    dst_offset: u32,
-) -> Prepared
-    requires { (size < 2 ^ 32) × (offset + src_stride limits.family ≤ size) }
-    ensures size { result.binding_size ≡ binding_size_of settings.now.alignment settings.now.largest_binding size }
-    ensures window { result.window ≡ src_offsets settings.now.alignment settings.now.largest_binding size offset }
-    ensures entry { result.entry ≡ entry_for limits (window_offset settings.now.alignment settings.now.largest_binding size offset) dst_offset }
-    ensures law { (d : ℕ) → d ≤ 20 → offset + d ≤ size → WindowLaw settings.now.alignment settings.now.largest_binding size offset d (binding_size_of settings.now.alignment settings.now.largest_binding size) result.window }
-{
-    let binding_size = calculate_src_buffer_binding_size(size, settings);
-    let window = calculate_src_offsets(size, settings, offset);
-    let entry = pack(limits, window.offset, dst_offset);
-    Prepared {
-        binding_size,
-        window,
-        entry,
-    }
+    )
+    .unwrap()
 }
 
 /// Follows a draw that nothing refuses.
-fn follow_accepted(
-    limits: DrawLimits,
-    settings: &Settings,
-    size: u64,
-    words: &[u32],
-    offset: u64,
-    dst_offset: u32,
-    first_instance_allowed: bool,
-) -> Followed
-    requires source { is_source size words.now ≡ true }
-    requires four { offset % 4 ≡ 0 }
-    requires lies { offset + src_stride limits.family ≤ size }
-    ensures value { result ≡ followed settings.now.alignment settings.now.largest_binding limits size words.now offset dst_offset first_instance_allowed }
-    ensures law { (b : Bound) → LimitsDecide b limits → DrawnLaw b settings.now.alignment settings.now.largest_binding size words.now offset first_instance_allowed result }
+fn follow_accepted(limits: DrawLimits, rules: &Rules, request: &Request) -> Followed
+    requires { Stands request.now.source limits.family request.now.offset }
+    ensures value { result ≡ followed rules.now limits request.now }
+    ensures law { (b : Bound) → LimitsDecide b limits → DrawnLaw b rules.now request.now result }
 {
-    let Prepared {
-        binding_size,
-        window,
-        entry,
-    } = prepare(limits, settings, size, offset, dst_offset);
-    let judged = check_in_window(
-        &entry,
-        words,
-        window.dynamic_offset,
-        binding_size,
-        first_instance_allowed,
-    );
-    let Some(arguments) = judged else {
-        unreachable()
-    };
+    let size = request.source.size;
+    let binding_size = calculate_src_buffer_binding_size(size, &rules.settings);
+    let window = calculate_src_offsets(size, &rules.settings, request.offset);
+    let entry = pack(limits, window.offset, request.dst_offset);
+    let words = window_in(request.source.words, window.dynamic_offset, binding_size);
+    let arguments = entry.validate(words, rules.first_instance_allowed);
     Followed {
         limits,
         binding_size,
         window,
         entry,
-        arguments,
+        arguments: arguments.unwrap(),
     }
 }
 
-/// Follows a draw of these limits.
-fn follow_limited(
-    limits: DrawLimits,
-    settings: &Settings,
-    source: Source,
-    offset: u64,
-    dst_offset: u32,
-    first_instance_allowed: bool,
-) -> Result<Followed, Refusal>
-    ensures answer { result ≡ limited_answer settings.now.alignment settings.now.largest_binding limits source.entry.size source.entry.words.now offset dst_offset first_instance_allowed }
-    ensures law { (b : Bound) → LimitsDecide b limits → LawAnswered b settings.now.alignment settings.now.largest_binding source.entry.size source.entry.words.now offset first_instance_allowed result }
+/// Follows an indirect draw, with what is bound: what was settled about it, or why it is turned down.
+pub fn follow(bindings: &Bindings, rules: &Rules, request: &Request) -> Result<Followed, Refusal>
+    ensures answer { result ≡ follow_answer (bound bindings.now) rules.now request.now }
+    ensures law { LawAnswered (bound bindings.now) rules.now request.now result }
 {
-    check_source(limits.family, source.size, source.words, offset)?;
-    Ok(follow_accepted(
-        limits,
-        settings,
-        source.size,
-        source.words,
-        offset,
-        dst_offset,
-        first_instance_allowed,
-    ))
-}
-
-/// Follows an indirect draw of a kind, with its arguments at a byte of a source and its words to be written at a byte
-/// of the destination: what was settled about it, or why it is turned down.
-pub fn follow(
-    bindings: &Bindings,
-    settings: &Settings,
-    kind: u64,
-    source: Source,
-    offset: u64,
-    dst_offset: u32,
-    first_instance_allowed: bool,
-) -> Result<Followed, Refusal>
-    ensures answer { result ≡ follow_answer (bound bindings.now) kind settings.now.alignment settings.now.largest_binding source.entry.size source.entry.words.now offset dst_offset first_instance_allowed }
-    ensures law { LawAnswered (bound bindings.now) settings.now.alignment settings.now.largest_binding source.entry.size source.entry.words.now offset first_instance_allowed result }
-{
-    let limits = bindings.draw_limits(kind)?;
-    follow_limited(
-        limits,
-        settings,
-        source,
-        offset,
-        dst_offset,
-        first_instance_allowed,
-    )
+    let limits = bindings.draw_limits(request.kind)?;
+    request.source.check(limits.family, request.offset)?;
+    Ok(follow_accepted(limits, rules, request))
 }

@@ -1,23 +1,38 @@
-use Rattle.validation.proofs.Following.{Known, never_outside, followed_is, followed_law}
+use Rattle.std.proofs.Common.{◌≡◌, ◌/◌, Some, refl, arith, rules}
+use Rattle.command.specs.Family.{is_indexed}
+use Rattle.entry.specs.Entries.{family_by, unpacked}
+use Rattle.entry.specs.Verdicts.{checked, verdict, words_of}
+use Rattle.validation.specs.Follows.{entry_for, window_words, arguments_of, drawn, followed, offset_in_window}
+use Rattle.validation.specs.declared.follow.Followed.{Followed}
+use Rattle.validation.proofs.Reading.{at_fits, at_whole}
+use Rattle.validation.proofs.Following.{answer_is, law_is}
 use Rattle.validation.proofs.follow.follow_accepted.Goals as goal
-use Rattle.validation.proofs.follow.follow_accepted.Goals.{After-check_in_window-judged}
+use Rattle.validation.proofs.follow.follow_accepted.Goals.{After-validate-arguments}
 
-abbrev KnownOf : After-check_in_window-judged → Type 0
-KnownOf c =
-    let st = c.args.settings.now in
-    let p = c.prepare-binding_size.result in
-    Known st.alignment st.largest_binding c.args.size c.args.offset c.args.limits c.args.words.now c.args.dst_offset c.args.first_instance_allowed p.binding_size p.window p.entry c.check_in_window-judged.result
+-- the check answers, with the words that are to be drawn
+answered : (c : After-validate-arguments) → c.validate-arguments.result ≡ Some (arguments_of c.args.limits.family (drawn c.args.rules.now c.args.limits c.args.request.now))
+answered c =
+    let r = c.args.rules.now in
+    let l = c.args.limits in
+    let q = c.args.request.now in
+    let place = offset_in_window r.settings q in
+    let entry : c.pack-entry.result ≡ entry_for l place q.dst_offset = search rules in
+    let uncut = c.validate-arguments.ensures.uncut (is_indexed l.family) place q.dst_offset l.vertex_or_index_limit l.instance_limit (at_whole r.settings l.family q c.requires) (at_fits r.settings l.family q c.requires) (omega arith) entry in
+    let words : words_of c.validate-arguments.result ≡ checked r.first_instance_allowed (family_by (is_indexed l.family)) (place / 4) l.vertex_or_index_limit l.instance_limit (window_words r.settings q) = search rules in
+    answer_is r l q c.requires c.validate-arguments.result (rw entry at c.validate-arguments.ensures.kind) words
 
-known : (c : After-check_in_window-judged) → KnownOf c
-known c =
-    let p = c.prepare-binding_size.ensures in
-    let v = c.check_in_window-judged.ensures in
-    record { ok = c.args.settings.now.ok; source = c.requires.source; four = c.requires.four; lies = c.requires.lies; dst_fits = c.ranges.dst_offset.fits; size_is = p.size; window_is = p.window; entry_is = p.entry; law = p.law; check = record { words = v.words; kind = v.kind; uncut = v.uncut } }
+pub unwrap-requires : goal.unwrap-requires
+unwrap-requires c = let is = answered c in rw is refl
 
-pub unreachable-requires : goal.unreachable-requires
-unreachable-requires c = never_outside (known (goal.at.unreachable-requires c).After-check_in_window-judged) c.in_default.is
+pub returns-clause-value : goal.returns-clause-value
+returns-clause-value c = let answer = answered (goal.at.returns-clause-value c).After-validate-arguments in search rules
 
-pub returns : goal.returns
-returns c =
-    let k = known (goal.at.returns c).After-check_in_window-judged in
-    record { value = followed_is k c.in-Some.is; law = followed_law k c.in-Some.is c.type_inv.words }
+pub returns-clause-law : goal.returns-clause-law
+returns-clause-law c =
+    let r = c.args.rules.now in
+    let l = c.args.limits in
+    let q = c.args.request.now in
+    let answer = answered (goal.at.returns-clause-law c).After-validate-arguments in
+    let inside : verdict r.first_instance_allowed (unpacked (entry_for l (offset_in_window r.settings q) q.dst_offset)) (window_words r.settings q) ≡ words_of (Some (arguments_of l.family (drawn r l q))) = search rules in
+    let value : ◌≡◌ {A = Followed} (record { limits = l; binding_size = c.calculate_src_buffer_binding_size-binding_size.result; window = c.calculate_src_offsets-window.result; entry = c.pack-entry.result; arguments = c.unwrap.result }) (followed r l q) = search rules in
+    rw value (law_is r l q c.requires c.window_in-words.ensures.fit inside)
