@@ -6,7 +6,7 @@ use command::family::DrawCommandFamily;
 const U32_MAX_AS_U64: u64 = 4_294_967_295;
 
 /// One entry as the words that the check reads: offsets in words, limits of 33 bits.
-#[derive(Clone, Copy)]
+#[derive(Clone, Copy, Default, PartialEq, Eq)]
 pub struct MetadataEntry {
     /// Bit 31: whether the draw is indexed.
     pub src_offset: u32,
