@@ -1,7 +1,7 @@
 -- No batch has more entries than a buffer holds.
-use Rattle.std.proofs.Common.{◌≡◌, ℕ, ◌+◌, ◌*◌, ◌≤◌, Bool, true, false, cond, eqb, List, [], ◌∷◌, map, get_or, Option, sym, refl, ap, ◌∙◌, arith, eqb-true}
-use Rattle.std.proofs.ByRecursion.{All-from_get_or}
-use Rattle.std.specs.List.{AllByRecursion}
+use Rattle.std.proofs.Common.{◌≡◌, ℕ, ◌+◌, ◌*◌, ◌≤◌, Bool, true, false, cond, eqb, List, [], ◌∷◌, map, get_or, take, Option, sym, refl, ap, ◌∙◌, arith, eqb-true}
+use Rattle.std.proofs.lemmas.List.Elements.{All-from_get_or}
+use Rattle.std.specs.List.{AllByRecursion, AllZip}
 use Rattle.command.specs.declared.family.DrawCommandFamily.{DrawCommandFamily}
 use Rattle.places.proofs.Spreading.{laid_apart}
 use Rattle.places.specs.Laid.{Span, Before, Pairwise, Within}
@@ -9,8 +9,10 @@ use Rattle.places.specs.declared.current.CurrentEntry.{CurrentEntry}
 use Rattle.batcher.specs.declared.records.BatchKey.{BatchKey}
 use Rattle.batcher.specs.declared.records.DrawIndirectValidationBatch.{DrawIndirectValidationBatch}
 use Rattle.batcher.specs.declared.records.IndirectDraw.{IndirectDraw}
-use Rattle.batcher.specs.Holds.{Paired, Recorded, key_of, span_of, tally, Held, Bounded}
-use Rattle.batcher.specs.Judged.{Terms, Wanted}
+use Rattle.batcher.specs.Holds.{Recorded, key_of, span_of, tally, Held, Holds, Bounded}
+use Rattle.batcher.specs.Judged.{Batching, Terms, Wanted, frame_terms}
+use Rattle.batcher.specs.declared.terms.FrameTerms.{FrameTerms}
+use Rattle.command.proofs.Lawfuls.{buffer_holds, dst_fits, dst_least}
 use Rattle.batcher.specs.Records.{no_key, no_batch}
 
 -- a draw of batch i lies in buffer x, at lo or above
@@ -34,7 +36,7 @@ module _ (t : Terms) (least : (f : DrawCommandFamily) → 16 ≤ t.dst f) (i x :
           omega (arith, more (lo + 16) le' (past_first d lo h.1 h.0 ds p.0 f.1))
       at false e more = omega (arith, more lo le f.1)
 
-  from_all : (ks : List BatchKey) → x ≡ (get_or ks i no_key).destination → (ws : List Wanted) (ds : List IndirectDraw) → Paired (Recorded t ks) ws ds → AllByRecursion (From i x 0) ds
+  from_all : (ks : List BatchKey) → x ≡ (get_or ks i no_key).destination → (ws : List Wanted) (ds : List IndirectDraw) → AllZip (Recorded t ks) ws ds → AllByRecursion (From i x 0) ds
   from_all ks e [] [] p = tt
   from_all ks e [] (d ∷ ds) p = absurd p
   from_all ks e (w ∷ ws) [] p = tt
@@ -51,3 +53,9 @@ bounded t least most ws cur ds bs h =
     let x = (get_or (map key_of bs) i no_key).destination in
     let s = laid_apart t.room (map (span_of t) ds) h.laid (sizes_fit t most ds) in
     omega (arith, room_for t least i x ds 0 (omega arith) s.0 s.1 (from_all t least i x (map key_of bs) refl ws ds h.recorded), h.counts i l))
+
+-- over lawful sizes
+pub held_bounded : (t : FrameTerms) {s : Batching} {ds : List IndirectDraw} {bs : List DrawIndirectValidationBatch} (ws : List Wanted) → Holds (frame_terms t) ws s ds bs → Bounded t.sizes.buffer (take s.batches bs)
+held_bounded t ws h =
+    let z = t.sizes in
+    bounded (frame_terms t) dst_least (dst_fits z.buffer (buffer_holds z.buffer z.block z.ok)) ws _ _ _ h.held

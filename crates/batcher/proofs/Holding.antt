@@ -1,10 +1,12 @@
 -- An accepted draw keeps what the tables hold, and so does a refused one.
-use Rattle.std.proofs.Common.{◌≡◌, ℕ, ◌+◌, ◌<◌, ◌≤◌, true, false, eqb, List, [], ◌∷◌, ◌++◌, map, length, get_or, set, Some, Option, sym, refl, ap, ◌∙◌, subst, ⊎_elim, add-zero, arith, eq-eqb, ne_eqb}
+use Rattle.std.proofs.Common.{◌≡◌, ℕ, ◌<◌, ◌≤◌, false, All, List, [], ◌∷◌, ◌++◌, map, length, get_or, set, Some, Option, sym, refl, ◌∙◌, arith}
 use lib.ListN.{get_or-map}
 use lib.Seq.{map-set_same}
-use Rattle.std.proofs.lemmas.List.{length-set, length_push, length-map, get_or_append_left, get_or_push, get_or-set_same, get_or-set_other, map_push}
-use Rattle.std.proofs.lemmas.Bool.{cases_eq}
-use Rattle.std.specs.List.{AllByRecursion}
+use Rattle.std.proofs.lemmas.List.{length-set, length_push, length-map, get_or_append_left, get_or_push, map_push}
+use Rattle.std.proofs.lemmas.Bool.Decides.{nat_tests}
+use Rattle.std.proofs.lemmas.Grind.{common_steps}
+use Rattle.std.proofs.lemmas.List.Elements.{All-map}
+use Rattle.std.proofs.lemmas.List.Quantifiers.{all_pairs_push}
 use Rattle.places.proofs.Laying.{next_placed}
 use Rattle.places.specs.Laid.{span, Laid, Ends, Next}
 use Rattle.places.specs.Placed.{past}
@@ -16,11 +18,7 @@ use Rattle.batcher.specs.Holds.{key_of, Recorded, span_of, tally, Held}
 use Rattle.batcher.specs.Judged.{Terms, Wanted, key_at, draw_at, place_for, opened, counted}
 use Rattle.batcher.specs.Keys.{same_key, has_key, First}
 use Rattle.batcher.specs.Records.{no_key, no_batch}
-use Rattle.batcher.proofs.Pushing.{paired_push, paired_weaker, different_push, same_key_lem, tally_push, ranked_push, opens_old, opens_new, tally_none}
-
-all_keys : (k : BatchKey) (bs : List DrawIndirectValidationBatch) → AllByRecursion (λ b. has_key k b ≡ false) bs → AllByRecursion (λ j. same_key j k ≡ false) (map key_of bs)
-all_keys k [] a = tt
-all_keys k (b ∷ bs) a = (a.0, all_keys k bs a.1)
+use Rattle.batcher.proofs.Pushing.{paired_push, paired_weaker, same_key_lem, ranked_push, opens_old, opens_new, tally_push, tally_none}
 
 keys_length : (bs : List DrawIndirectValidationBatch) → length (map key_of bs) ≡ length bs
 keys_length bs = length-map bs key_of
@@ -66,15 +64,10 @@ module _ (t : Terms) (ws : List Wanted) (cur : Option CurrentEntry) (ds : List I
     }
 
     counts_at : (j : ℕ) → j < length bs → (get_or grown j no_batch).count ≡ tally j (ds ++ joining ∷ [])
-    counts_at j l = ⊎_elim
-        (λ (e : j ≡ i).
-        let q : eqb i j ≡ true = eq-eqb i j (sym e) in
-        ap (λ (n : ℕ). (get_or grown n no_batch).count) e ∙ ap (λ (x : DrawIndirectValidationBatch). x.count) (get_or-set_same bs i (counted (get_or bs i no_batch)) no_batch f.within)
-        ∙ ap (λ (n : ℕ). (get_or bs n no_batch).count + 1) (sym e) ∙ ap (λ (n : ℕ). n + 1) (h.counts j l) ∙ sym (tally_push j ds joining ∙ simp q))
-        (λ (e : j ≡ i → ⊥).
-        let q : eqb i j ≡ false = ne_eqb i j (λ x. e (sym x)) in
-        ap (λ (x : DrawIndirectValidationBatch). x.count) (get_or-set_other bs i j (counted (get_or bs i no_batch)) no_batch e) ∙ h.counts j l ∙ sym (tally_push j ds joining ∙ simp (q, add-zero)))
-        (cases_eq j i)
+    counts_at j l =
+        let t = tally_push j ds joining in
+        let k = h.counts j l in
+        grind (arith, nat_tests, common_steps)
 
     pub held_joins : Held t (ws ++ w ∷ []) after (ds ++ joining ∷ []) grown
     held_joins =
@@ -90,7 +83,7 @@ module _ (t : Terms) (ws : List Wanted) (cur : Option CurrentEntry) (ds : List I
         }
 
   -- the draw opens a batch
-  module _ (none : AllByRecursion (λ b. has_key (key_at t w place) b ≡ false) bs) where
+  module _ (none : All (λ b. has_key (key_at t w place) b ≡ false) bs) where
     abbrev opening : IndirectDraw
     opening = draw (length bs) 0
 
@@ -120,16 +113,11 @@ module _ (t : Terms) (ws : List Wanted) (cur : Option CurrentEntry) (ds : List I
     }
 
     counts_new : (j : ℕ) → j ≤ length bs → (get_or (bs ++ fresh ∷ []) j no_batch).count ≡ tally j (ds ++ opening ∷ [])
-    counts_new j l = ⊎_elim
-        (λ (e : j ≡ length bs).
-        let q : eqb (length bs) j ≡ true = eq-eqb (length bs) j (sym e) in
-        let z : tally j ds ≡ 0 = subst (λ (n : ℕ). tally n ds ≡ 0) (sym e) (tally_none 0 ds (length bs) h.opens) in
-        ap (λ (x : DrawIndirectValidationBatch). x.count) (get_or_push bs fresh no_batch j (sym e)) ∙ sym (tally_push j ds opening ∙ simp (q, z)))
-        (λ (e : j ≡ length bs → ⊥).
-        let n : j < length bs = omega (arith, l, e) in
-        let q : eqb (length bs) j ≡ false = ne_eqb (length bs) j (λ x. e (sym x)) in
-        ap (λ (x : DrawIndirectValidationBatch). x.count) (get_or_append_left bs (fresh ∷ []) no_batch j n) ∙ h.counts j n ∙ sym (tally_push j ds opening ∙ simp (q, add-zero)))
-        (cases_eq j (length bs))
+    counts_new j l =
+        let t = tally_push j ds opening in
+        let k = h.counts j in
+        let z = tally_none 0 ds (length bs) h.opens in
+        grind (arith, nat_tests, common_steps)
 
     pub held_opens : Held t (ws ++ w ∷ []) after (ds ++ opening ∷ []) (bs ++ fresh ∷ [])
     held_opens =
@@ -138,7 +126,7 @@ module _ (t : Terms) (ws : List Wanted) (cur : Option CurrentEntry) (ds : List I
           recorded = rw keys_more (paired_push (Recorded t more) ws ds w opening (paired_weaker (Recorded t (map key_of bs)) (Recorded t more) record_stays ws ds h.recorded) record_opens);
           laid = laid' (length bs) 0;
           ends = ends' (length bs) 0;
-          different = rw keys_more (different_push (map key_of bs) (key_at t w place) h.different (all_keys (key_at t w place) bs none));
+          different = rw keys_more (all_pairs_push (λ j k. same_key j k ≡ false) (map key_of bs) (key_at t w place) h.different (All-map (λ j. same_key j (key_at t w place) ≡ false) key_of bs none));
           opens = rw longer (opens_new 0 ds (length bs) opening h.opens refl);
           ranked = ranked_push [] ds opening h.ranked (sym (tally_none 0 ds (length bs) h.opens));
           counts = λ j l. counts_new j (omega (arith, l, longer));

@@ -1,3 +1,4 @@
+pub mod Accepting
 pub mod Bounding
 pub mod Finding
 pub mod Holding

@@ -1,29 +1,24 @@
 -- One more draw at the end of what is recorded.
-use Rattle.std.proofs.Common.{◌≡◌, ℕ, ◌+◌, ◌<◌, ◌≤◌, true, false, cond, eqb, List, [], ◌∷◌, ◌++◌, sym, refl, ap, ◌∙◌, inl, inr, append_assoc, append-nil, arith, ne_eqb}
-use Rattle.std.proofs.ByRecursion.{All-push}
+use Rattle.std.proofs.Common.{◌≡◌, ℕ, ◌+◌, ◌<◌, ◌≤◌, true, cond, eqb, List, [], ◌∷◌, ◌++◌, sym, refl, ap, ◌∙◌, inl, inr, append_assoc, append-nil, arith}
 use Rattle.std.proofs.lemmas.Bool.Decides.{nat_tests}
-use Rattle.std.specs.List.{AllByRecursion}
+use Rattle.std.specs.List.{AllZip}
 use Rattle.batcher.specs.declared.records.BatchKey.{BatchKey}
 use Rattle.batcher.specs.declared.records.IndirectDraw.{IndirectDraw}
-use Rattle.batcher.specs.Holds.{Paired, tally, Ranked, Opens, Different}
+use Rattle.batcher.specs.Holds.{tally, Ranked, Opens}
 use Rattle.batcher.specs.Keys.{same_key}
 
 module _ {X Y : Type 0} (R : X → Y → Type 0) where
-  pub paired_push : (xs : List X) (ys : List Y) (x : X) (y : Y) → Paired R xs ys → R x y → Paired R (xs ++ x ∷ []) (ys ++ y ∷ [])
+  pub paired_push : (xs : List X) (ys : List Y) (x : X) (y : Y) → AllZip R xs ys → R x y → AllZip R (xs ++ x ∷ []) (ys ++ y ∷ [])
   paired_push [] [] x y p r = (r, tt)
   paired_push [] (z ∷ ys) x y p r = absurd p
   paired_push (z ∷ xs) [] x y p r = absurd p
   paired_push (z ∷ xs) (v ∷ ys) x y p r = (p.0, paired_push xs ys x y p.1 r)
 
-  pub paired_weaker : (S : X → Y → Type 0) → ((x : X) (y : Y) → R x y → S x y) → (xs : List X) (ys : List Y) → Paired R xs ys → Paired S xs ys
+  pub paired_weaker : (S : X → Y → Type 0) → ((x : X) (y : Y) → R x y → S x y) → (xs : List X) (ys : List Y) → AllZip R xs ys → AllZip S xs ys
   paired_weaker S f [] [] p = tt
   paired_weaker S f [] (y ∷ ys) p = p
   paired_weaker S f (x ∷ xs) [] p = p
   paired_weaker S f (x ∷ xs) (y ∷ ys) p = (f x y p.0, paired_weaker S f xs ys p.1)
-
-pub different_push : (ks : List BatchKey) (k : BatchKey) → Different ks → AllByRecursion (λ j. same_key j k ≡ false) ks → Different (ks ++ k ∷ [])
-different_push [] k l a = (tt, tt)
-different_push (j ∷ ks) k l a = (All-push (λ i. same_key j i ≡ false) ks k l.0 a.0, different_push ks k l.1 a.1)
 
 pub same_key_lem : (j k : BatchKey) → same_key j k ≡ true → j ≡ k
 same_key_lem j k e =
@@ -60,9 +55,9 @@ pub tally_none : (n : ℕ) (ds : List IndirectDraw) (m : ℕ) → Opens n ds m �
 tally_none n [] m o = refl
 tally_none n (x ∷ ds) m (inl o) =
     let up = opens_up n ds m o.1 in
-    let ne : eqb x.batch m ≡ false = ne_eqb x.batch m (λ q. omega (arith, o.0, up, q)) in
-    simp ne (simp (tally_none n ds m o.1))
+    let r = tally_none n ds m o.1 in
+    grind (arith, nat_tests)
 tally_none n (x ∷ ds) m (inr o) =
     let up = opens_up (n + 1) ds m o.1 in
-    let ne : eqb x.batch m ≡ false = ne_eqb x.batch m (λ q. omega (arith, o.0, up, q)) in
-    simp ne (simp (tally_none (n + 1) ds m o.1))
+    let r = tally_none (n + 1) ds m o.1 in
+    grind (arith, nat_tests)

@@ -1,6 +1,6 @@
 -- What stands in the tables, by the draws that were accepted.
-use Rattle.std.specs.Prelude.{◌≡◌, ℕ, ◌+◌, ◌*◌, ◌<◌, ◌≤◌, false, cond, ◌⊎◌, List, [], ◌∷◌, ◌++◌, map, length, take, Some, None, Option, ◌==◌, slice_index_or}
-use Rattle.std.specs.List.{AllByRecursion}
+use Rattle.std.specs.Prelude.{◌≡◌, ℕ, ◌+◌, ◌*◌, ◌<◌, ◌≤◌, false, cond, ◌⊎◌, List, [], ◌∷◌, ◌++◌, map, length, take, Some, None, Option, ◌==◌, All, AllPairs, slice_index_or}
+use Rattle.std.specs.List.{AllZip}
 use Rattle.command.specs.Family.{family_of}
 use Rattle.command.specs.declared.family.DrawCommandFamily.{DrawCommandFamily}
 use Rattle.places.specs.Laid.{Span, span, Laid, Ends}
@@ -12,13 +12,6 @@ use Rattle.batcher.specs.declared.records.BatchKey.{BatchKey}
 use Rattle.batcher.specs.declared.records.DrawIndirectValidationBatch.{DrawIndirectValidationBatch}
 use Rattle.batcher.specs.declared.records.DrawRequest.{DrawRequest}
 use Rattle.batcher.specs.declared.records.IndirectDraw.{IndirectDraw}
-
--- each of one list beside each of the other
-abbrev pub Paired : {X Y : Type 0} → (X → Y → Type 0) → List X → List Y → Type 0
-Paired R [] [] = Unit {0}
-Paired R [] (y ∷ ys) = ⊥
-Paired R (x ∷ xs) [] = ⊥
-Paired R (x ∷ xs) (y ∷ ys) = R x y × Paired R xs ys
 
 abbrev pub key_of : DrawIndirectValidationBatch → BatchKey
 key_of b = b.key
@@ -48,16 +41,12 @@ abbrev pub Opens : ℕ → List IndirectDraw → ℕ → Type 0
 Opens n [] m = n ≡ m
 Opens n (d ∷ ds) m = ((d.batch < n) × Opens n ds m) ⊎ ((d.batch ≡ n) × Opens (n + 1) ds m)
 
-abbrev pub Different : List BatchKey → Type 0
-Different [] = Unit {0}
-Different (k ∷ ks) = AllByRecursion (λ j. same_key k j ≡ false) ks × Different ks
-
 -- the records of both tables, for the draws that were accepted, in their order
 pub record Held (t : Terms) (ws : List Wanted) (current : Option CurrentEntry) (ds : List IndirectDraw) (bs : List DrawIndirectValidationBatch) : Type 0 where
-  pub recorded : Paired (Recorded t (map key_of bs)) ws ds
+  pub recorded : AllZip (Recorded t (map key_of bs)) ws ds
   pub laid : Laid t.room (map (span_of t) ds)
   pub ends : Ends current (map (span_of t) ds)
-  pub different : Different (map key_of bs)
+  pub different : AllPairs (λ j k. same_key j k ≡ false) (map key_of bs)
   pub opens : Opens 0 ds (length bs)
   pub ranked : Ranked [] ds
   pub counts : (i : ℕ) → i < length bs → (slice_index_or bs i no_batch).count ≡ tally i ds
@@ -79,4 +68,4 @@ asked q = asked_of q (family_of q.kind) q.size
 
 -- no batch has more entries of 16 bytes than a buffer holds
 abbrev pub Bounded : ℕ → List DrawIndirectValidationBatch → Type 0
-Bounded room bs = AllByRecursion (λ b. b.count * 16 ≤ room) bs
+Bounded room bs = All (λ b. b.count * 16 ≤ room) bs

@@ -1,5 +1,5 @@
 -- What one request for an indirect draw answers and writes.
-use Rattle.std.specs.Prelude.{ℕ, ◌+◌, ◌-◌, ◌^◌, Bool, true, false, cond, not, List, [], ◌∷◌, length, get_or, take, Some, None, Ok, Err, Option, Result, nat_le, nat_lt, slice_index_or, slice_set}
+use Rattle.std.specs.Prelude.{ℕ, ◌+◌, ◌-◌, ◌^◌, max, Bool, true, cond, List, [], ◌∷◌, length, get_or, take, Some, None, Ok, Err, Option, Result, nat_le, nat_lt, slice_index_or, slice_set}
 use Rattle.command.specs.Checks.{first, and_then}
 use Rattle.command.specs.Family.{argument_answer, family_of, is_indexed, src_stride, dst_stride}
 use Rattle.command.specs.declared.family.DrawCommandFamily.{DrawCommandFamily}
@@ -11,6 +11,7 @@ use Rattle.entry.specs.Entries.{packed}
 use Rattle.entry.specs.Window.{dynamic_offset_of, window_offset}
 use Rattle.entry.specs.declared.metadata.MetadataEntry.{MetadataEntry}
 use Rattle.places.specs.Placed.{fits, placed, past}
+use Rattle.places.specs.Supplies.{grants}
 use Rattle.places.specs.declared.current.CurrentEntry.{CurrentEntry}
 use Rattle.batcher.specs.Keys.{found}
 use Rattle.batcher.specs.Records.{no_batch}
@@ -20,6 +21,7 @@ use Rattle.batcher.specs.declared.records.BatchKey.{BatchKey}
 use Rattle.batcher.specs.declared.records.DrawIndirectValidationBatch.{DrawIndirectValidationBatch}
 use Rattle.batcher.specs.declared.records.DrawRequest.{DrawRequest}
 use Rattle.batcher.specs.declared.records.IndirectDraw.{IndirectDraw}
+use Rattle.batcher.specs.declared.terms.FrameTerms.{FrameTerms}
 
 -- what places and windows are cut by: alignment and largest binding, bytes of a pool buffer, bytes of a draw by kind
 pub record Terms : Type 0 where
@@ -31,6 +33,9 @@ pub record Terms : Type 0 where
 
 abbrev pub terms : Settings → Sizes → Terms
 terms s z = record { alignment = s.alignment; largest = s.largest_binding; room = z.buffer; src = src_stride; dst = dst_stride }
+
+abbrev pub frame_terms : FrameTerms → Terms
+frame_terms t = terms t.settings t.sizes
 
 -- a batcher's own state: how many records stand in each table, and the place after the last draw
 pub record Batching : Type 0 where
@@ -65,10 +70,11 @@ place_for t c w = placed c (t.dst w.family) t.room
 
 abbrev pub prepared : Terms → Option CurrentEntry → Wanted → Prepared
 prepared t c w = record {
+  family = w.family;
   key = key_at t w (place_for t c w);
   place = place_for t c w;
   entry = entry_at t w (place_for t c w);
-  asks = not (fits c (t.dst w.family) t.room);
+  asks = cond (fits c (t.dst w.family) t.room) None (Some (place_for t c w).index);
   current = past (place_for t c w) (t.dst w.family);
 }
 
@@ -78,19 +84,18 @@ opened k = record { key = k; count = 1; staging = no_batch.staging; metadata = n
 abbrev pub counted : DrawIndirectValidationBatch → DrawIndirectValidationBatch
 counted b = record { key = b.key; count = b.count + 1; staging = b.staging; metadata = b.metadata }
 
-abbrev pub chosen : DrawCommandFamily → Prepared → ℕ → ℕ → DrawIndirectValidationBatch → Bool → Chosen
-chosen f p batch rank b opens = record {
-  draw = record { family = f; place = p.place; entry = p.entry; batch = batch; rank = rank };
+abbrev pub chosen : Prepared → ℕ → ℕ → DrawIndirectValidationBatch → Chosen
+chosen p batch rank b = record {
+  draw = record { family = p.family; place = p.place; entry = p.entry; batch = batch; rank = rank };
   batch = b;
-  opens = opens;
   asks = p.asks;
   current = p.current;
 }
 
 -- the draw joins the batch of its key, or opens one
-abbrev pub joined : DrawCommandFamily → Prepared → ℕ → List DrawIndirectValidationBatch → Option ℕ → Result Chosen Refusal
-joined f p n bs (Some i) = first ((nat_le (2 ^ 32 - 1) (get_or bs i no_batch).count, TableFull) ∷ []) (Ok (chosen f p i (get_or bs i no_batch).count (counted (slice_index_or bs i no_batch)) false))
-joined f p n bs None = first ((nat_le (length bs) n, TableFull) ∷ []) (Ok (chosen f p n 0 (opened p.key) true))
+abbrev pub joined : Prepared → ℕ → List DrawIndirectValidationBatch → Option ℕ → Result Chosen Refusal
+joined p n bs (Some i) = first ((nat_le (2 ^ 32 - 1) (get_or bs i no_batch).count, TableFull) ∷ []) (Ok (chosen p i (get_or bs i no_batch).count (counted (slice_index_or bs i no_batch))))
+joined p n bs None = first ((nat_le (length bs) n, TableFull) ∷ []) (Ok (chosen p n 0 (opened p.key)))
 
 abbrev pub table_checks : Batching → List IndirectDraw → List DrawIndirectValidationBatch → List (Bool × Refusal)
 table_checks s ds bs =
@@ -101,7 +106,7 @@ table_checks s ds bs =
 abbrev pub judged_wanted : Terms → Batching → List IndirectDraw → List DrawIndirectValidationBatch → Wanted → Result Chosen Refusal
 judged_wanted t s ds bs w =
     let p = prepared t s.current w in
-    and_then (argument_answer t.src w.family w.size w.offset) (λ _. first (table_checks s ds bs) (joined w.family p s.batches bs (found p.key (take s.batches bs) 0)))
+    and_then (argument_answer t.src w.family w.size w.offset) (λ _. first (table_checks s ds bs) (joined p s.batches bs (found p.key (take s.batches bs))))
 
 abbrev pub by_size : Terms → Batching → List IndirectDraw → List DrawIndirectValidationBatch → DrawRequest → DrawCommandFamily → Option ℕ → Result Chosen Refusal
 by_size t s ds bs q f None = Err NoSuchSource
@@ -115,9 +120,14 @@ by_family t s ds bs q (Some f) = by_size t s ds bs q f q.size
 abbrev pub judged : Terms → Batching → List IndirectDraw → List DrawIndirectValidationBatch → DrawRequest → Result Chosen Refusal
 judged t s ds bs q = by_family t s ds bs q (family_of q.kind)
 
+-- the buffer that is asked for, if any, can be had
+abbrev pub given : Option ℕ → (ℕ → Bool) → Bool
+given None can = true
+given (Some i) can = can i
+
 -- a new buffer is the last thing that can fail
 abbrev pub granted : Result Chosen Refusal → (ℕ → Bool) → Result Chosen Refusal
-granted (Ok c) can = cond c.asks (cond (can c.draw.place.index) (Ok c) (Err NoBuffer)) (Ok c)
+granted (Ok c) can = cond (given c.asks can) (Ok c) (Err NoBuffer)
 granted (Err e) can = Err e
 
 abbrev pub outcome : Terms → Batching → List IndirectDraw → List DrawIndirectValidationBatch → DrawRequest → (ℕ → Bool) → Result Chosen Refusal
@@ -136,10 +146,37 @@ abbrev pub batches_after : Result Chosen Refusal → List DrawIndirectValidation
 batches_after (Ok c) bs = slice_set bs c.draw.batch c.batch
 batches_after (Err e) bs = bs
 
+-- a draw belongs to a batch that is there, or to the next one
 abbrev pub batching_after : Result Chosen Refusal → Batching → Batching
-batching_after (Ok c) s = record { draws = s.draws + 1; batches = cond c.opens (s.batches + 1) s.batches; current = Some c.current }
+batching_after (Ok c) s = record { draws = s.draws + 1; batches = max s.batches (c.draw.batch + 1); current = Some c.current }
 batching_after (Err e) s = s
 
+abbrev pub asked_for : {V : Type 0} → (V → ℕ → V) → Option ℕ → V → V
+asked_for ensured None v = v
+asked_for ensured (Some i) v = ensured v i
+
 abbrev pub supply_after : {V : Type 0} → (V → ℕ → V) → Result Chosen Refusal → V → V
-supply_after ensured (Ok c) v = cond c.asks (ensured v c.draw.place.index) v
+supply_after ensured (Ok c) v = asked_for ensured c.asks v
 supply_after ensured (Err e) v = v
+
+-- a batcher's state, what its supply of destination buffers is to it, and both tables
+pub record Recording (V : Type 0) : Type 0 where
+  pub batching : Batching
+  pub supply : V
+  pub draws : List IndirectDraw
+  pub batches : List DrawIndirectValidationBatch
+
+-- what one more request writes, over a supply that holds so many buffers and can give so many more
+abbrev pub outcome_of : {V : Type 0} → (V → ℕ) → (V → ℕ) → Terms → Recording V → DrawRequest → Result Chosen Refusal
+outcome_of held more t r q = outcome t r.batching r.draws r.batches q (grants (held r.supply) (more r.supply))
+
+abbrev pub answer_of : {V : Type 0} → (V → ℕ) → (V → ℕ) → Terms → Recording V → DrawRequest → Result CurrentEntry Refusal
+answer_of held more t r q = place_of (outcome_of held more t r q)
+
+abbrev pub recorded : {V : Type 0} → (V → ℕ) → (V → ℕ) → (V → ℕ → V) → Terms → Recording V → DrawRequest → Recording V
+recorded held more ensured t r q = record {
+  batching = batching_after (outcome_of held more t r q) r.batching;
+  supply = supply_after ensured (outcome_of held more t r q) r.supply;
+  draws = draws_after (outcome_of held more t r q) r.batching r.draws;
+  batches = batches_after (outcome_of held more t r q) r.batches;
+}

@@ -1,6 +1,5 @@
 -- Batches by their keys.
-use Rattle.std.specs.Prelude.{◌≡◌, ℕ, ◌+◌, ◌<◌, Bool, true, false, cond, List, [], ◌∷◌, length, take, Some, None, Option, ◌==◌, slice_index_or}
-use Rattle.std.specs.List.{AllByRecursion}
+use Rattle.std.specs.Prelude.{◌≡◌, ℕ, ◌<◌, Bool, true, false, cond, List, length, take, Some, None, Option, ◌==◌, All, position, slice_index_or}
 use Rattle.batcher.specs.declared.records.BatchKey.{BatchKey}
 use Rattle.batcher.specs.declared.records.DrawIndirectValidationBatch.{DrawIndirectValidationBatch}
 use Rattle.batcher.specs.Records.{no_batch}
@@ -11,18 +10,17 @@ same_key j k = cond (j.source == k.source) (cond (j.window == k.window) (j.desti
 abbrev pub has_key : BatchKey → DrawIndirectValidationBatch → Bool
 has_key k b = same_key b.key k
 
--- the position of a batch with the key, counted from i, or nothing
-unfoldable pub found : BatchKey → List DrawIndirectValidationBatch → ℕ → Option ℕ
-found k [] i = None
-found k (b ∷ bs) i = cond (has_key k b) (Some i) (found k bs (i + 1))
+-- the position of the first batch with the key, or nothing
+abbrev pub found : BatchKey → List DrawIndirectValidationBatch → Option ℕ
+found k bs = position (has_key k) bs
 
 -- the first batch with the key stands there
 pub record First (k : BatchKey) (bs : List DrawIndirectValidationBatch) (i : ℕ) : Type 0 where
   pub within : i < length bs
   pub has : has_key k (slice_index_or bs i no_batch) ≡ true
-  pub sooner : AllByRecursion (λ b. has_key k b ≡ false) (take i bs)
+  pub sooner : All (λ b. has_key k b ≡ false) (take i bs)
 
 -- what a search answers: nothing exactly where no batch has the key
 abbrev pub Finds : BatchKey → List DrawIndirectValidationBatch → Option ℕ → Type 0
-Finds k bs None = AllByRecursion (λ b. has_key k b ≡ false) bs
+Finds k bs None = All (λ b. has_key k b ≡ false) bs
 Finds k bs (Some i) = First k bs i

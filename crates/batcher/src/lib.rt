@@ -4,3 +4,5 @@
 pub mod batcher;
 pub mod records;
 pub mod search;
+pub mod tables;
+pub mod terms;

@@ -6,7 +6,7 @@ use entry::metadata::MetadataEntry;
 use places::current::CurrentEntry;
 
 /// What the draws of one batch have in common: they are checked by one dispatch.
-#[derive(Clone, Copy)]
+#[derive(Clone, Copy, Default, PartialEq, Eq)]
 pub struct BatchKey {
     /// The number of the source.
     pub source: u64,
@@ -17,7 +17,7 @@ pub struct BatchKey {
 }
 
 /// One batch: its key, how many entries it has, and where a plan puts them.
-#[derive(Clone, Copy)]
+#[derive(Clone, Copy, Default)]
 pub struct DrawIndirectValidationBatch {
     pub key: BatchKey,
     pub count: u32,
@@ -28,7 +28,7 @@ pub struct DrawIndirectValidationBatch {
 }
 
 /// One recorded draw.
-#[derive(Clone, Copy)]
+#[derive(Clone, Copy, Default)]
 pub struct IndirectDraw {
     pub family: DrawCommandFamily,
     /// Destination buffer and byte offset at which the checked arguments will stand.
@@ -53,47 +53,20 @@ pub struct DrawRequest {
 
 impl DrawIndirectValidationBatch {
     /// A record to fill a table with, before anything is recorded in its place.
+    // Kept beside `default`, whose derived contract goes field by field: this one names the record that stands there.
     pub fn empty() -> DrawIndirectValidationBatch
         ensures { result ≡ no_batch }
     {
-        DrawIndirectValidationBatch {
-            key: BatchKey {
-                source: 0,
-                window: 0,
-                destination: 0,
-            },
-            count: 0,
-            staging: CurrentEntry {
-                index: 0,
-                offset: 0,
-            },
-            metadata: CurrentEntry {
-                index: 0,
-                offset: 0,
-            },
-        }
+        DrawIndirectValidationBatch::default()
     }
 }
 
 impl IndirectDraw {
     /// A record to fill a table with, before anything is recorded in its place.
+    // Kept beside `default` for the same reason.
     pub fn empty() -> IndirectDraw
         ensures { result ≡ no_draw }
     {
-        IndirectDraw {
-            family: DrawCommandFamily::Draw,
-            place: CurrentEntry {
-                index: 0,
-                offset: 0,
-            },
-            entry: MetadataEntry {
-                src_offset: 0,
-                dst_offset: 0,
-                vertex_or_index_limit: 0,
-                instance_limit: 0,
-            },
-            batch: 0,
-            rank: 0,
-        }
+        IndirectDraw::default()
     }
 }

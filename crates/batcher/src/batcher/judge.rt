@@ -1,5 +1,5 @@
-ghost use Rattle.std.specs.Prelude.{◌≡◌, ℕ, ◌+◌, ◌-◌, ◌^◌, ◌<◌, ◌≤◌, true, length, take, IfOk, Ok, Err};
-ghost use Rattle.batcher.specs.Judged.{chosen, joined, judged, prepared, terms, wanted};
+ghost use Rattle.std.specs.Prelude.{◌≡◌, ℕ, ◌+◌, ◌-◌, ◌^◌, ◌<◌, ◌≤◌, length, take, IfOk, Ok, Err};
+ghost use Rattle.batcher.specs.Judged.{chosen, frame_terms, joined, judged, prepared, wanted};
 ghost use Rattle.batcher.specs.Keys.{found};
 ghost use Rattle.batcher.specs.View.{batching};
 ghost use Rattle.command.specs.Family.{is_indexed, src_stride};
@@ -8,11 +8,11 @@ ghost use Rattle.places.specs.Placed.{placed};
 
 use super::super::records::{BatchKey, DrawIndirectValidationBatch, DrawRequest, IndirectDraw};
 use super::super::search::find;
+use super::super::tables::Tables;
+use super::super::terms::FrameTerms;
 use super::DrawBatcher;
 use command::family::{DrawCommandFamily, check_arguments, get_dst_stride_of_indirect_args};
 use command::refusal::Refusal;
-use command::settings::Settings;
-use command::sizes::Sizes;
 use entry::metadata::MetadataEntry;
 use entry::window::calculate_src_offsets;
 use places::current::CurrentEntry;
@@ -21,11 +21,12 @@ use places::subrange::{fits_current, next_place};
 /// What is known of a draw before its batch is.
 #[derive(Clone, Copy)]
 pub struct Prepared {
+    pub family: DrawCommandFamily,
     pub key: BatchKey,
     pub place: CurrentEntry,
     pub entry: MetadataEntry,
-    /// Whether the place needs a buffer that may not be there yet.
-    pub asks: bool,
+    /// The buffer to ask for, where the place needs one that may not be there yet.
+    pub asks: Option<usize>,
     /// The current place once the draw stands.
     pub current: CurrentEntry,
 }
@@ -35,72 +36,56 @@ pub struct Prepared {
 pub struct Chosen {
     pub draw: IndirectDraw,
     pub batch: DrawIndirectValidationBatch,
-    pub opens: bool,
-    pub asks: bool,
+    pub asks: Option<usize>,
     pub current: CurrentEntry,
 }
 
-// The draw joins the batch of its key, or opens one. A count that no recording has led to is refused.
-fn join(
-    family: DrawCommandFamily,
-    prepared: &Prepared,
-    recorded: usize,
-    batches: &[DrawIndirectValidationBatch],
-) -> Result<Chosen, Refusal>
-    requires { recorded ≤ length batches.now }
-    ensures value { result ≡ joined family prepared.now recorded batches.now (found prepared.now.key (take recorded batches.now) 0) }
-    ensures within { IfOk result (λ c. (c.draw.batch < length batches.now) × (c.current ≡ prepared.now.current)) }
-    ensures room { IfOk result (λ c. c.opens ≡ true → recorded < length batches.now) }
-{
-    match find(&batches[0..recorded], &prepared.key) {
-        Some(i) => {
-            let batch = batches[i];
-            if batch.count == u32::MAX {
-                return Err(Refusal::TableFull);
-            }
-            let joined = DrawIndirectValidationBatch {
-                count: batch.count + 1,
-                ..batch
-            };
-            Ok(prepared.chosen(family, i, batch.count, joined, false))
-        }
-        None => {
-            if recorded >= batches.len() {
-                return Err(Refusal::TableFull);
-            }
-            let opened = DrawIndirectValidationBatch {
-                key: prepared.key,
-                count: 1,
-                ..DrawIndirectValidationBatch::empty()
-            };
-            Ok(prepared.chosen(family, recorded, 0, opened, true))
-        }
-    }
-}
-
 impl Prepared {
-    fn chosen(
-        &self,
-        family: DrawCommandFamily,
-        batch: usize,
-        rank: u32,
-        record: DrawIndirectValidationBatch,
-        opens: bool,
-    ) -> Chosen
-        ensures { result ≡ chosen family self.now batch rank «record» opens }
+    fn chosen(&self, batch: usize, rank: u32, record: DrawIndirectValidationBatch) -> Chosen
+        ensures { result ≡ chosen self.now batch rank «record» }
     {
         Chosen {
             draw: IndirectDraw {
-                family,
+                family: self.family,
                 place: self.place,
                 entry: self.entry,
                 batch,
                 rank,
             },
             batch: record,
-            opens,
             asks: self.asks,
             current: self.current,
+        }
+    }
+
+    // The draw joins the batch of its key, or opens one. A count that no recording has led to is refused.
+    fn join(
+        &self,
+        recorded: usize,
+        batches: &[DrawIndirectValidationBatch],
+    ) -> Result<Chosen, Refusal>
+        requires { recorded ≤ length batches.now }
+        ensures value { result ≡ joined self.now recorded batches.now (found self.now.key (take recorded batches.now)) }
+        ensures within { IfOk result (λ c. (c.draw.batch < length batches.now) × (c.current ≡ self.now.current)) }
+    {
+        match find(&batches[..recorded], &self.key) {
+            Some(i) => {
+                let batch = batches[i];
+                let count = batch.count.checked_add(1).ok_or(Refusal::TableFull)?;
+                let joined = DrawIndirectValidationBatch { count, ..batch };
+                Ok(self.chosen(i, batch.count, joined))
+            }
+            None => {
+                if recorded >= batches.len() {
+                    return Err(Refusal::TableFull);
+                }
+                let opened = DrawIndirectValidationBatch {
+                    key: self.key,
+                    count: 1,
+                    ..DrawIndirectValidationBatch::empty()
+                };
+                Ok(self.chosen(recorded, 0, opened))
+            }
         }
     }
 }
@@ -140,8 +125,7 @@ impl DrawBatcher {
     // The draw's place, window, entry and key. No supply is asked: where the place is follows from the sizes alone.
     fn prepare(
         &self,
-        settings: &Settings,
-        sizes: &Sizes,
+        terms: &FrameTerms,
         request: &DrawRequest,
         family: DrawCommandFamily,
         size: u64,
@@ -149,12 +133,14 @@ impl DrawBatcher {
         requires inside { request.now.offset + src_stride family ≤ size }
         requires small { self.now.draws < 2 ^ 64 - 1 }
         ensures reached { result.current.index ≤ self.now.draws }
-        ensures value { result ≡ prepared (terms settings.now sizes.now) self.now.current (wanted request.now family size) }
+        ensures value { result ≡ prepared (frame_terms terms.now) self.now.current (wanted request.now family size) }
     {
+        let room = terms.sizes.buffer();
         let stride = get_dst_stride_of_indirect_args(family);
-        let place = self.place_for(stride, sizes.buffer());
-        let split = calculate_src_offsets(size, settings, request.offset);
+        let place = self.place_for(stride, room);
+        let split = calculate_src_offsets(size, &terms.settings, request.offset);
         Prepared {
+            family,
             key: BatchKey {
                 source: request.source,
                 window: split.dynamic_offset,
@@ -162,7 +148,7 @@ impl DrawBatcher {
             },
             place,
             entry: entry_for(request, family, split.offset, place.offset),
-            asks: !fits_current(self.current, stride, sizes.buffer()),
+            asks: (!fits_current(self.current, stride, room)).then_some(place.index),
             current: CurrentEntry {
                 index: place.index,
                 offset: place.offset + stride,
@@ -173,25 +159,20 @@ impl DrawBatcher {
     /// What the request would write, or why it is turned down, before any supply is asked.
     pub(super) fn judge(
         &self,
-        draws: &[IndirectDraw],
-        batches: &[DrawIndirectValidationBatch],
-        settings: &Settings,
-        sizes: &Sizes,
+        tables: &Tables,
+        terms: &FrameTerms,
         request: &DrawRequest,
     ) -> Result<Chosen, Refusal>
-        ensures value { result ≡ judged (terms settings.now sizes.now) (batching self.now) draws.now batches.now request.now }
-        ensures within { IfOk result (λ c. (c.draw.batch < length batches.now) × (self.now.draws < length draws.now) × (c.current.index ≤ self.now.draws)) }
-        ensures room { IfOk result (λ c. c.opens ≡ true → self.now.batches < length batches.now) }
+        ensures value { result ≡ judged (frame_terms terms.now) (batching self.now) tables.now.draws.now tables.now.batches.now request.now }
+        ensures within { IfOk result (λ c. (c.draw.batch < length tables.now.batches.now) × (self.now.draws < length tables.now.draws.now) × (c.current.index ≤ self.now.draws)) }
     {
         let family = DrawCommandFamily::try_from(request.kind)?;
-        let Some(size) = request.size else {
-            return Err(Refusal::NoSuchSource);
-        };
+        let size = request.size.ok_or(Refusal::NoSuchSource)?;
         check_arguments(family, size, request.offset)?;
-        if self.draws >= draws.len() || self.batches > batches.len() {
+        if self.draws >= tables.draws.len() || self.batches > tables.batches.len() {
             return Err(Refusal::TableFull);
         }
-        let prepared = self.prepare(settings, sizes, request, family, size);
-        join(family, &prepared, self.batches, batches)
+        let prepared = self.prepare(terms, request, family, size);
+        prepared.join(self.batches, tables.batches)
     }
 }

@@ -1,23 +1,19 @@
-use Rattle.command.proofs.Lawfuls.{dst_fits, dst_least, buffer_holds}
-use Rattle.places.specs.Supplies.{grants}
-use Rattle.batcher.specs.Judged.{terms}
-use Rattle.batcher.proofs.Bounding.{bounded}
-use Rattle.batcher.proofs.Keeping.{keeps}
+use Rattle.std.proofs.Common.{sym}
+use Rattle.batcher.specs.Judged.{frame_terms}
+use Rattle.batcher.specs.View.{batching}
+use Rattle.batcher.proofs.Bounding.{held_bounded}
+use Rattle.batcher.proofs.Keeping.{keeps_judged}
 use Rattle.batcher.proofs.batcher.DrawBatcher.add.Goals as goal
 
-pub returns : goal.returns
-returns g c =
-    let e = c.enter.ensures in
-    let t = terms c.args.settings.now c.args.sizes.now in
-    let can = grants (g.S.Supply.held (g.S.Supply.view c.args.supply.now)) (g.S.Supply.more (g.S.Supply.view c.args.supply.now)) in
-    let z = c.args.sizes.now in
-    record {
-      answer = e.answer;
-      draws = e.draws;
-      batches = e.batches;
-      batcher = e.batcher;
-      supply = e.supply;
-      kept = e.kept;
-      holds = λ ws h. rw (e.answer, e.batcher, e.draws, e.batches) (keeps t _ c.args.draws.now c.args.batches.now ws h c.args.request.now can);
-      bounded = λ ws h. bounded t dst_least (dst_fits z.buffer (buffer_holds z.buffer z.block z.ok)) ws _ _ _ h.held;
-    }
+pub returns-in_err-chosen-clause-bounded : goal.returns-in_err-chosen-clause-bounded
+returns-in_err-chosen-clause-bounded g c = held_bounded c.args.terms.now
+
+pub returns-then-not-ensure-clause-bounded : goal.returns-then-not-ensure-clause-bounded
+returns-then-not-ensure-clause-bounded g c = held_bounded c.args.terms.now
+
+pub returns-clause-holds : goal.returns-clause-holds
+returns-clause-holds g c = λ ws h.
+    rw c.max-self.ensures (keeps_judged (frame_terms c.args.terms.now) (batching c.args.self.now) c.args.tables.now.draws.now c.args.tables.now.batches.now ws h c.args.request.now c.in_ok-chosen.chosen (sym c.in_ok-chosen.ensures.value))
+
+pub returns-clause-bounded : goal.returns-clause-bounded
+returns-clause-bounded g c = held_bounded c.args.terms.now

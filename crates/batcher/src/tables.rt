@@ -1,0 +1,8 @@
+use super::records::{DrawIndirectValidationBatch, IndirectDraw};
+
+/// The two tables that a caller lends to a batcher; their lengths are what there is room for.
+#[derive(Drop)]
+pub struct Tables<'a> {
+    pub draws: &'a mut [IndirectDraw],
+    pub batches: &'a mut [DrawIndirectValidationBatch],
+}
