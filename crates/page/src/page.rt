@@ -47,16 +47,13 @@ impl fmt::Display for Page {
     ghost output = { λ p. Some (written (sheet_of p)) };
 
     fn fmt<W: fmt::Write>(&self, f: &mut fmt::Formatter<W>) -> fmt::Result {
-        let align = Line::Align(self.align);
-        let binding = Line::Binding(self.binding);
+        let (align, binding) = (Line::Align(self.align), Line::Binding(self.binding));
         write!(f, "{align}\n{binding}\n")?;
         for size in &self.sources {
-            let line = Line::Source(*size);
-            writeln!(f, "{line}")?;
+            writeln!(f, "{}", Line::Source(*size))?;
         }
         for draw in &self.draws {
-            let line = Line::Draw(*draw);
-            writeln!(f, "{line}")?;
+            writeln!(f, "{}", Line::Draw(*draw))?;
         }
         Ok(())
     }
