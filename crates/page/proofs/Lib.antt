@@ -2,3 +2,4 @@ pub mod Parts
 pub mod Fields
 pub mod Lining
 pub mod Reading
+pub mod Writing

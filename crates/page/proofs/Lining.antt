@@ -1,25 +1,47 @@
--- the lines of a text
-use Rattle.std.proofs.Common.{◌≡◌, ℕ, ◌<◌, eqb, List, [], ◌∷◌, ◌++◌, length, refl, ap, ◌∙◌, arith, length-append}
-use Rattle.std.proofs.lemmas.Bool.{cond-false}
-use Rattle.page.specs.Texts.{Free, on_first, lines_of}
+-- the lines of a text are what stands between its newlines, but for one at its end
+use Rattle.std.proofs.Common.{◌≡◌, ℕ, ◌+◌, ◌<◌, ◌≤◌, cond, get_or, drop, eqb, List, [], ◌∷◌, ◌++◌, length, Some, None, Option, Bor, MatchOption, unwrap_or, refl, ap, ◌∙◌, sym, arith, length-append}
+use Rattle.std.proofs.lemmas.Bool.{cond-false, ne_eqb}
+use Rattle.std.proofs.lemmas.List.{drop_more}
+use Rattle.std.proofs.lemmas.List.Splits.{length-slice_split}
+use Rattle.std.proofs.lemmas.List.Sums.{count_by-le-length}
+use Rattle.std.specs.List.{onto_first, slice_split}
+use Rattle.page.specs.Texts.{after_word, lines_of}
+use Rattle.page.specs.Sheets.{read_lines, read_on}
 
-pub lines_more : (l rest : List ℕ) → Free 10 l → lines_of (l ++ (10 ∷ rest)) ≡ l ∷ lines_of rest
+abbrev pub pieces : List ℕ → List (List ℕ)
+pieces bs = slice_split (λ c. eqb c 10) bs
+
+lines_ended : (bs : List ℕ) → lines_of (bs ++ (10 ∷ [])) ≡ pieces bs
 unfolding lines_of
-lines_more [] rest f = refl
-lines_more (c ∷ l) rest f = cond-false (eqb c 10) _ _ f.0 ∙ ap (on_first c) (lines_more l rest f.1)
+lines_ended [] = refl
+lines_ended (c ∷ bs) = ap (λ ls. cond (eqb c 10) ([] ∷ ls) (onto_first c ls)) (lines_ended bs)
 
-first_line : (c : ℕ) (l : List ℕ) → Free 10 (c ∷ l) → lines_of (c ∷ l) ≡ (c ∷ l) ∷ []
+lines_unended : (bs : List ℕ) → 0 < length bs → ((front : List ℕ) → bs ≡ front ++ (10 ∷ []) → ⊥) → lines_of bs ≡ pieces bs
 unfolding lines_of
-first_line c [] f = cond-false (eqb c 10) _ _ f.0
-first_line c (d ∷ l) f = cond-false (eqb c 10) _ _ f.0 ∙ ap (on_first c) (first_line d l f.1)
+lines_unended [] h n = absurd (omega arith)
+lines_unended (c ∷ []) h n =
+    let e = ne_eqb c 10 (λ z. n [] (ap (λ m. m ∷ []) z)) in
+    cond-false (eqb c 10) _ _ e ∙ sym (cond-false (eqb c 10) _ _ e)
+lines_unended (c ∷ d ∷ bs) h n = ap (λ ls. cond (eqb c 10) ([] ∷ ls) (onto_first c ls)) (lines_unended (d ∷ bs) (omega arith) (λ f e. n (c ∷ f) (ap (λ l. c ∷ l) e)))
 
-pub lines_last : (l : List ℕ) → 0 < length l → Free 10 l → lines_of l ≡ l ∷ lines_of []
-unfolding lines_of
-lines_last [] h f = absurd (omega arith)
-lines_last (c ∷ l) h f = first_line c l f
+-- the empty text has one piece, which is as bad as none
+read_unended : (bs : List ℕ) → ((front : List ℕ) → bs ≡ front ++ (10 ∷ []) → ⊥) → read_lines (pieces bs) ≡ read_lines (lines_of bs)
+unfolding lines_of read_on after_word
+read_unended [] n = refl
+read_unended (c ∷ bs) n = ap read_lines (sym (lines_unended (c ∷ bs) (omega arith) n))
 
-pub lines_cut : (bs l rest : List ℕ) → Free 10 l → bs ≡ l ++ (10 ∷ rest) → lines_of bs ≡ l ∷ lines_of rest
-lines_cut bs l rest f e = ap lines_of e ∙ lines_more l rest f
+pub read_pieces : (bs : List ℕ) (o : Option (Bor (List ℕ))) (d : Bor (List ℕ)) → d.now ≡ bs → MatchOption o ((front : List ℕ) → bs ≡ front ++ (10 ∷ []) → ⊥) (λ x. bs ≡ x.now ++ (10 ∷ [])) → read_lines (pieces (unwrap_or o d).now) ≡ read_lines (lines_of bs)
+read_pieces bs None d e h = rw e (read_unended bs h)
+read_pieces bs (Some x) d e h = rw (h, lines_ended x.now)
 
-pub shorter_cut : (bs l rest : List ℕ) → bs ≡ l ++ (10 ∷ rest) → length rest < length bs
-shorter_cut bs l rest e = omega (arith, ap length e, length-append l (10 ∷ rest))
+-- no more pieces than bytes, and one
+few : (bs : List ℕ) → length (pieces bs) ≤ length bs + 1
+few bs = omega (arith, length-slice_split (λ c. eqb c 10) bs, count_by-le-length (λ c. eqb c 10) bs)
+
+pub few_pieces : (bs : List ℕ) (o : Option (Bor (List ℕ))) (d : Bor (List ℕ)) → d.now ≡ bs → MatchOption o ((front : List ℕ) → bs ≡ front ++ (10 ∷ []) → ⊥) (λ x. bs ≡ x.now ++ (10 ∷ [])) → length (pieces (unwrap_or o d).now) ≤ length bs + 1
+few_pieces bs None d e h = rw e (few bs)
+few_pieces bs (Some x) d e h = omega (arith, few x.now, ap length h, length-append x.now (10 ∷ []))
+
+-- the piece at place n is the next
+pub next_piece : (ls : List (List ℕ)) (n : ℕ) (l : List ℕ) → (n < length ls) × (l ≡ get_or ls n l) → drop n ls ≡ l ∷ drop (n + 1) ls
+next_piece ls n l h = drop_more ls n l h.0 ∙ ap (λ m. m ∷ drop (n + 1) ls) (sym h.1)

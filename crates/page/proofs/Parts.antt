@@ -1,8 +1,11 @@
 -- steps of the loops that read a number, cut a text and follow a word
-use Rattle.std.proofs.Common.{◌≡◌, ℕ, ◌+◌, ◌-◌, ◌*◌, ◌^◌, ◌<◌, ◌≤◌, Bool, true, false, ◌&&◌, List, [], ◌∷◌, ◌++◌, length, get_or, take, drop, Some, None, sym, ap, ◌∙◌, pow-suc, add-one, arith}
-use Rattle.std.proofs.lemmas.List.{drop_more, drop_all, take-append-drop}
-use Rattle.std.proofs.lemmas.Bool.{eq-eqb, ne_eqb, cond-true, cond-false, and_from}
+use Rattle.std.proofs.Common.{◌≡◌, ℕ, ◌+◌, ◌-◌, ◌*◌, ◌^◌, ◌<◌, ◌≤◌, Bool, true, false, ◌&&◌, List, zero, suc, [], ◌∷◌, ◌++◌, length, eqb, get_or, take, drop, Some, None, Option, Bor, refl, sym, subst, ap, ◌∙◌, pow-suc, add-one, arith}
+use Rattle.std.proofs.lemmas.List.{drop_more, drop_all, take-append-drop, take_all, take_rest}
+use Rattle.std.proofs.lemmas.Bool.{and_from, and_parts, cond-true, cond_both, false≢true}
 use Rattle.std.proofs.lemmas.Bool.Decides.{nat_tests}
+use Rattle.std.specs.Cmp.Lexicographic.{pointwise}
+use Rattle.std.specs.List.{AllWithin, HoldsAt}
+use Rattle.std.specs.Option.{MatchOption}
 use Rattle.page.specs.Numbers.{below_bound, is_digit, digits_only, number_length, value_after, number_of}
 use Rattle.page.specs.Texts.{Free, after_word}
 
@@ -36,29 +39,36 @@ value_end v xs i h = ap (value_after v) (drop_all i xs h)
 pub not_digits : (bs : List ℕ) → digits_only bs ≡ false → None ≡ number_of bs
 not_digits bs h = grind (arith, nat_tests)
 
-pub as_number : (bs : List ℕ) (v : ℕ) → true ≡ number_length (length bs) → digits_only bs ≡ true → v ≡ value_after 0 bs → below_bound v ≡ number_of bs
-as_number bs v l d e = ap below_bound e ∙ sym (cond-true (number_length (length bs) && digits_only bs) _ _ (and_from (number_length (length bs)) (digits_only bs) (sym l) d))
+pub as_number : (bs : List ℕ) (v : ℕ) (r : Option ℕ) → number_length (length bs) ≡ true → digits_only bs ≡ true → v ≡ value_after 0 bs → r ≡ below_bound v → r ≡ number_of bs
+as_number bs v r l d e k = k ∙ ap below_bound e ∙ sym (cond-true (number_length (length bs) && digits_only bs) _ _ (and_from (number_length (length bs)) (digits_only bs) l d))
 
-pub free_push : (b : ℕ) (xs : List ℕ) (c : ℕ) → Free b xs → (c ≡ b → ⊥) → Free b (xs ++ (c ∷ []))
-free_push b [] c f n = (ne_eqb c b n, tt)
-free_push b (x ∷ xs) c f n = (f.0, free_push b xs c f.1 n)
+-- nothing but b, from place i on
+pub free_until : (b i : ℕ) (xs : List ℕ) → ((k d : ℕ) → 0 ≤ k → k < i → eqb (get_or xs k d) b ≡ false) → Free b (take i xs)
+free_until b zero xs h = tt
+free_until b (suc i) [] h = tt
+free_until b (suc i) (x ∷ xs) h = (h 0 0 (omega arith) (omega arith), free_until b i xs (λ k d l m. h (suc k) d (omega arith) (omega arith)))
 
-module _ (ws bs : List ℕ) (i : ℕ) (h : i < length ws) where
-  pub word_more : i < length bs → get_or bs i 0 ≡ get_or ws i 0 → after_word (drop i ws) (drop i bs) ≡ after_word (drop (i + 1) ws) (drop (i + 1) bs)
-  unfolding after_word
-  word_more k e = rw (drop_more ws i 0 h, drop_more bs i 0 k) (cond-true _ _ _ (eq-eqb _ _ e))
+-- what `position` answers of a byte: the text has none, or is cut there
+pub first_place : (b : ℕ) (xs : List ℕ) (r : Option ℕ) → MatchOption r (AllWithin (λ x. eqb x b ≡ false) xs 0 (length xs)) (λ i. (i < length xs) × HoldsAt (λ x. x ≡ b) xs i × AllWithin (λ x. eqb x b ≡ false) xs 0 i) → MatchOption r (Free b xs) (λ i. Free b (take i xs) × (xs ≡ take i xs ++ (b ∷ take (length xs - (i + 1)) (drop (i + 1) xs))))
+first_place b xs None h = subst (Free b) (take_all (length xs) xs (omega arith)) (free_until b (length xs) xs h)
+first_place b xs (Some i) h = (free_until b i xs h.2, rw (take_rest xs (i + 1)) (cut_here xs i b h.0 (h.1 0)))
+  where
+    cut_here : (xs : List ℕ) (i b : ℕ) → i < length xs → get_or xs i 0 ≡ b → xs ≡ take i xs ++ (b ∷ drop (i + 1) xs)
+    cut_here xs i b h e = sym (take-append-drop i xs) ∙ ap (λ (l : List ℕ). take i xs ++ l) (drop_more xs i 0 h ∙ ap (λ (c : ℕ). c ∷ drop (i + 1) xs) e)
 
-  pub word_off : i < length bs → (get_or bs i 0 ≡ get_or ws i 0 → ⊥) → after_word (drop i ws) (drop i bs) ≡ None
-  unfolding after_word
-  word_off k e = rw (drop_more ws i 0 h, drop_more bs i 0 k) (cond-false _ _ _ (ne_eqb _ _ e))
-
-  pub word_short : length bs ≤ i → after_word (drop i ws) (drop i bs) ≡ None
-  unfolding after_word
-  word_short k = rw (drop_more ws i 0 h, drop_all i bs k)
-
-pub word_all : (ws bs : List ℕ) (i : ℕ) → length ws ≤ i → after_word (drop i ws) bs ≡ Some bs
+-- what `strip_prefix` answers of a word
+pub word_found : (w s : List ℕ) (x : Bor (List ℕ)) → (pointwise eqb (take (length w) s) w ≡ true) × (x.now ≡ drop (length w) s) × (length x.now + length w ≡ length s) → after_word w s ≡ Some x.now
 unfolding after_word
-word_all ws bs i h = rw (drop_all i ws h)
+word_found [] s x h = ap Some (sym h.1)
+word_found (v ∷ w) [] x h = let z : ◌≡◌ {A = Bool} false true = h.0 in absurd (false≢true z)
+word_found (v ∷ w) (b ∷ s) x h =
+    let p = and_parts (eqb b v) (pointwise eqb (take (length w) s) w) h.0 in
+    cond-true (eqb b v) _ _ p.0 ∙ word_found w s x (p.1, h.1, omega (arith, h.2))
 
-pub cut_here : (xs : List ℕ) (i b : ℕ) → i < length xs → get_or xs i 0 ≡ b → xs ≡ take i xs ++ (b ∷ drop (i + 1) xs)
-cut_here xs i b h e = sym (take-append-drop i xs) ∙ ap (λ (l : List ℕ). take i xs ++ l) (drop_more xs i 0 h ∙ ap (λ (c : ℕ). c ∷ drop (i + 1) xs) e)
+pub word_missing : (w s : List ℕ) → pointwise eqb (take (length w) s) w ≡ false → after_word w s ≡ None
+unfolding after_word
+word_missing [] s h = absurd (false≢true (sym h))
+word_missing (v ∷ w) [] h = refl
+word_missing (v ∷ w) (b ∷ s) h =
+    (cond_both (eqb b v) (after_word w s) None (λ o. eqb b v && pointwise eqb (take (length w) s) w ≡ false → o ≡ None)
+    (λ e k. word_missing w s (sym (ap (λ t. t && pointwise eqb (take (length w) s) w) e) ∙ k)) (λ _ _. refl)) h

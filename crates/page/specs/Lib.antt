@@ -4,3 +4,4 @@ pub mod Lines
 pub mod Stages
 pub mod Sheets
 pub mod Parsers
+pub mod Written

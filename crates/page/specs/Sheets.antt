@@ -1,11 +1,11 @@
 -- the sheet that a text is, or the number of its first bad line
-use Rattle.std.specs.Prelude.{◌≡◌, ℕ, ◌+◌, Bool, cond, List, [], ◌∷◌, ◌++◌, map, length, Some, None, Ok, Err, vec_items, Option, Result, nat_lt}
+use Rattle.std.specs.Prelude.{◌≡◌, ℕ, ◌+◌, ◌<◌, Bool, cond, List, [], ◌∷◌, ◌++◌, map, length, Some, None, Ok, Err, vec_items, Option, Result, nat_lt}
 use Rattle.page.specs.declared.line.DrawLine.{DrawLine}
 use Rattle.page.specs.declared.line.Line.{Line}
 use Rattle.page.specs.declared.line.Line.TheVariants.{Align, Binding, Source, Draw}
 use Rattle.page.specs.declared.page.Page.{Page}
 use Rattle.page.specs.declared.read.ReadError.{ReadError}
-use Rattle.page.specs.declared.read.ReadError.TheVariants.{Bad, Memory}
+use Rattle.page.specs.declared.read.ReadError.TheVariants.{Bad, Memory, TooLong}
 use Rattle.page.specs.declared.stage.Stage.{Stage}
 use Rattle.page.specs.declared.stage.Stage.TheVariants.{Start}
 use Rattle.page.specs.Texts.{lines_of}
@@ -59,5 +59,6 @@ read_page text = cond (too_long text) (bad 0) (read_lines (lines_of text))
 -- what a reader answers where the text is as parsed
 abbrev pub Reads : Result Page ReadError → Parsed → Type 0
 Reads (Ok p) q = q ≡ good (sheet_of p)
-Reads (Err (Bad n)) q = q ≡ bad n
+Reads (Err (Bad n)) q = (q ≡ bad n) × (0 < n)
+Reads (Err TooLong) q = q ≡ bad 0
 Reads (Err Memory) q = Unit {0}

@@ -1,13 +1,15 @@
-ghost use Rattle.std.specs.Prelude.{◌≡◌};
+ghost use Rattle.std.specs.Prelude.{◌≡◌, Some};
 ghost use Rattle.page.specs.Lines.{and_then, draw_of, line_of, numbers_of, source_of};
+ghost use Rattle.page.specs.Written.{draw_text, line_text};
 
-use crate::text::{after_word, first_number, number};
+use crate::text::{first_number, number};
+use std::fmt;
 
 /// A source has at most so many bytes.
 const LARGEST_SOURCE: u64 = 4_294_967_295;
 
 /// The numbers of a draw's line, in their order.
-#[derive(Clone, Copy)]
+#[derive(Clone, Copy, PartialEq, Eq)]
 pub struct DrawLine {
     pub kind: u64,
     pub source: u64,
@@ -17,7 +19,7 @@ pub struct DrawLine {
 }
 
 /// A line of a sheet.
-#[derive(Clone, Copy)]
+#[derive(Clone, Copy, PartialEq, Eq)]
 pub enum Line {
     Align(u64),
     Binding(u64),
@@ -25,15 +27,39 @@ pub enum Line {
     Draw(DrawLine),
 }
 
+impl fmt::Display for DrawLine {
+    ghost output = { λ d. Some (draw_text d) };
+
+    fn fmt<W: fmt::Write>(&self, f: &mut fmt::Formatter<W>) -> fmt::Result {
+        let DrawLine {
+            kind,
+            source,
+            offset,
+            first_limit,
+            instance_limit,
+        } = self;
+        write!(f, "{kind},{source},{offset},{first_limit},{instance_limit}")
+    }
+}
+
+/// The text of a line, without its newline.
+impl fmt::Display for Line {
+    ghost output = { λ l. Some (line_text l) };
+
+    fn fmt<W: fmt::Write>(&self, f: &mut fmt::Formatter<W>) -> fmt::Result {
+        match self {
+            Line::Align(bytes) => write!(f, "align={bytes}"),
+            Line::Binding(bytes) => write!(f, "binding={bytes}"),
+            Line::Source(size) => write!(f, "source={size}"),
+            Line::Draw(draw) => write!(f, "draw={draw}"),
+        }
+    }
+}
+
 fn read_source(text: &[u8]) -> Option<u64>
     ensures { result ≡ source_of text.now }
 {
-    let size = number(text)?;
-    if size <= LARGEST_SOURCE {
-        Some(size)
-    } else {
-        None
-    }
+    number(text).filter(|size| *size <= LARGEST_SOURCE)
 }
 
 fn read_draw(text: &[u8]) -> Option<DrawLine>
@@ -57,15 +83,14 @@ fn read_draw(text: &[u8]) -> Option<DrawLine>
 pub fn read_line(text: &[u8]) -> Option<Line>
     ensures { result ≡ line_of text.now }
 {
-    if let Some(rest) = after_word(text, b"align=") {
-        return Some(Line::Align(number(rest)?));
+    if let Some(rest) = text.strip_prefix(b"align=") {
+        number(rest).map(Line::Align)
+    } else if let Some(rest) = text.strip_prefix(b"binding=") {
+        number(rest).map(Line::Binding)
+    } else if let Some(rest) = text.strip_prefix(b"source=") {
+        read_source(rest).map(Line::Source)
+    } else {
+        let rest = text.strip_prefix(b"draw=")?;
+        read_draw(rest).map(Line::Draw)
     }
-    if let Some(rest) = after_word(text, b"binding=") {
-        return Some(Line::Binding(number(rest)?));
-    }
-    if let Some(rest) = after_word(text, b"source=") {
-        return Some(Line::Source(read_source(rest)?));
-    }
-    let rest = after_word(text, b"draw=")?;
-    Some(Line::Draw(read_draw(rest)?))
 }

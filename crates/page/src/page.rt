@@ -1,8 +1,10 @@
-ghost use Rattle.std.specs.Prelude.{◌≡◌, OnOk};
+ghost use Rattle.std.specs.Prelude.{◌≡◌, OnOk, Some};
 ghost use Rattle.page.specs.Sheets.{added, empty, sheet_of};
+ghost use Rattle.page.specs.Written.{written};
 
 use crate::line::{DrawLine, Line};
 use std::alloc::{AllocError, Global};
+use std::fmt;
 
 /// What a sheet says: its settings, the sizes of its sources, and its draws, in their order.
 #[derive(Drop)]
@@ -35,6 +37,23 @@ impl Page {
             Line::Binding(bytes) => self.binding = bytes,
             Line::Source(size) => self.sources.push(size)?,
             Line::Draw(draw) => self.draws.push(draw)?,
+        }
+        Ok(())
+    }
+}
+
+/// The text of a page, each line with its newline.
+impl fmt::Display for Page {
+    ghost output = { λ p. Some (written (sheet_of p)) };
+
+    fn fmt<W: fmt::Write>(&self, f: &mut fmt::Formatter<W>) -> fmt::Result {
+        let (align, binding) = (Line::Align(self.align), Line::Binding(self.binding));
+        write!(f, "{align}\n{binding}\n")?;
+        for size in &self.sources {
+            writeln!(f, "{}", Line::Source(*size))?;
+        }
+        for draw in &self.draws {
+            writeln!(f, "{}", Line::Draw(*draw))?;
         }
         Ok(())
     }

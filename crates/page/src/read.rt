@@ -1,22 +1,38 @@
 ghost use Rattle.std.specs.Prelude.{◌≡◌};
-ghost use Rattle.page.specs.Sheets.{Reads, read_page, too_long};
+ghost use Rattle.page.specs.Sheets.{Reads, read_page};
 ghost use Rattle.page.specs.declared.read.ReadError.TheVariants.{Memory};
 
 use crate::page::Page;
 use crate::parser::Parser;
 use std::alloc::{AllocError, Global};
+use std::error::Error;
+use std::fmt;
 
 /// A text has at most so many bytes.
 const MOST_BYTES: usize = 65_536;
 
 /// Why a text was not read.
-#[derive(Drop)]
+#[derive(Clone, Copy, Debug, PartialEq, Eq)]
 pub enum ReadError {
-    /// The first line that is bad or missing, from 1, or 0 for a text that is too long.
+    /// The text is no sheet: its first line that is bad or missing, from 1.
     Bad(u64),
+    /// The text has too many bytes for a sheet.
+    TooLong,
     /// There was no memory for the page.
     Memory,
 }
+
+impl fmt::Display for ReadError {
+    fn fmt<W: fmt::Write>(&self, f: &mut fmt::Formatter<W>) -> fmt::Result {
+        match self {
+            ReadError::Bad(number) => write!(f, "line {number} is bad or missing"),
+            ReadError::TooLong => write!(f, "the text is longer than {MOST_BYTES} bytes"),
+            ReadError::Memory => write!(f, "out of memory"),
+        }
+    }
+}
+
+impl Error for ReadError {}
 
 impl From<AllocError> for ReadError {
     ghost from_gives = { λ _ e. e ≡ Memory };
@@ -26,22 +42,18 @@ impl From<AllocError> for ReadError {
     }
 }
 
-fn is_too_long(text: &[u8]) -> bool
-    ensures { result ≡ too_long text.now }
-{
-    text.len() > MOST_BYTES
-}
-
-/// The page that a text is, or the number of the first line at which no sheet can go on.
+/// The page that a text is, or why it is none.
 pub fn read(heap: Global, text: &[u8]) -> Result<Page, ReadError>
     ensures answer { Reads result (read_page text.now) }
 {
-    if is_too_long(text) {
-        return Err(ReadError::Bad(0));
+    if text.len() > MOST_BYTES {
+        return Err(ReadError::TooLong);
     }
-    let mut parser = Parser::new(heap, text);
-    while !parser.at_end() {
-        parser.take_line()?;
+    let mut parser = Parser::new(heap);
+    // A newline at the very end ends the last line and adds none.
+    let body = text.strip_suffix(b"\n").unwrap_or(text);
+    for line in body.split(|byte| *byte == b'\n') {
+        parser.take_line(line)?;
     }
     parser.finish()
 }

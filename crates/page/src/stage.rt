@@ -1,5 +1,5 @@
 ghost use Rattle.std.specs.Prelude.{◌≡◌};
-ghost use Rattle.page.specs.Stages.{draw_after, may_end, next_of, source_after};
+ghost use Rattle.page.specs.Stages.{may_end, next_of};
 
 use crate::line::Line;
 
@@ -20,22 +20,6 @@ pub enum Stage {
 }
 
 impl Stage {
-    fn another_source(count: u64) -> Option<Stage>
-        ensures { result ≡ source_after count }
-    {
-        if count < MOST_SOURCES {
-            Some(Stage::Sources(count + 1))
-        } else {
-            None
-        }
-    }
-
-    fn first_draw(count: u64) -> Option<Stage>
-        ensures { result ≡ draw_after count }
-    {
-        if count > 0 { Some(Stage::Draws) } else { None }
-    }
-
     /// The stage after one more line, if that line may come next.
     pub fn next(self, line: Line) -> Option<Stage>
         ensures { result ≡ next_of self line }
@@ -43,9 +27,10 @@ impl Stage {
         match (self, line) {
             (Stage::Start, Line::Align(_)) => Some(Stage::Aligned),
             (Stage::Aligned, Line::Binding(_)) => Some(Stage::Sources(0)),
-            (Stage::Sources(count), Line::Source(_)) => Stage::another_source(count),
-            (Stage::Sources(count), Line::Draw(_)) => Stage::first_draw(count),
-            (Stage::Draws, Line::Draw(_)) => Some(Stage::Draws),
+            (Stage::Sources(count), Line::Source(_)) if count < MOST_SOURCES => {
+                Some(Stage::Sources(count + 1))
+            }
+            (Stage::Sources(1..) | Stage::Draws, Line::Draw(_)) => Some(Stage::Draws),
             _ => None,
         }
     }
@@ -54,10 +39,6 @@ impl Stage {
     pub fn may_end(self) -> bool
         ensures { result ≡ may_end self }
     {
-        match self {
-            Stage::Start | Stage::Aligned => false,
-            Stage::Sources(count) => count > 0,
-            Stage::Draws => true,
-        }
+        matches!(self, Stage::Sources(1..) | Stage::Draws)
     }
 }

@@ -8,11 +8,13 @@ use Rattle.page.specs.declared.line.Line.{Line}
 use Rattle.page.specs.declared.line.Line.TheVariants.{Align, Binding, Source, Draw}
 use Rattle.page.specs.declared.stage.Stage.{Stage}
 use Rattle.page.specs.declared.stage.Stage.TheVariants.{Start, Aligned, Sources, Draws}
-use Rattle.page.specs.Texts.{lines_of, on_first}
+use Rattle.page.specs.Texts.{lines_of}
+use Rattle.std.specs.List.{onto_first}
 use Rattle.page.specs.Lines.{line_of}
 use Rattle.page.specs.Stages.{next_of, may_end}
 use Rattle.page.specs.Sheets.{Sheet, Parsed, good, bad, read_on, read_lines, read_page, added, empty}
-use Rattle.page_text.specs.Written.{line_text, lines_text, sheet_lines, written, LineFits, Fits}
+use Rattle.page.specs.Written.{line_text, lines_text, sheet_lines, written}
+use Rattle.page_text.specs.Written.{LineFits, Fits}
 use Rattle.page_text.specs.Laws.{Spells, unpadded}
 use Rattle.page_text.proofs.Spelling.{total, spelt, spelt_fits, spelt_size}
 use Rattle.page_text.proofs.Ordered.{read_sheet, read_written}
@@ -97,9 +99,9 @@ unfolding lines_of
 total_lines [] = omega arith
 total_lines (c ∷ cs) =
     let h = total_lines cs in
-    cond_both (eqb c 10) ([] ∷ lines_of cs) (on_first c (lines_of cs)) (λ l. total l ≤ suc (length cs) + 1) (λ _. omega arith) (λ _. first (lines_of cs) h)
+    cond_both (eqb c 10) ([] ∷ lines_of cs) (onto_first c (lines_of cs)) (λ l. total l ≤ suc (length cs) + 1) (λ _. omega arith) (λ _. first (lines_of cs) h)
   where
-    first : (ls : List (List ℕ)) → total ls ≤ length cs + 1 → total (on_first c ls) ≤ suc (length cs) + 1
+    first : (ls : List (List ℕ)) → total ls ≤ length cs + 1 → total (onto_first c ls) ≤ suc (length cs) + 1
     first [] h = omega arith
     first (l ∷ ls) h = omega arith
 

@@ -1,4 +1,3 @@
-pub mod Writing
 pub mod Ending
 pub mod Returning
 pub mod Ordered

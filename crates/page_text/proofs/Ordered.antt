@@ -9,7 +9,8 @@ use Rattle.page.specs.declared.stage.Stage.TheVariants.{Start, Aligned, Sources,
 use Rattle.page.specs.Lines.{line_of}
 use Rattle.page.specs.Stages.{next_of}
 use Rattle.page.specs.Sheets.{Sheet, Parsed, good, bad, read_on, read_page, added, empty}
-use Rattle.page_text.specs.Written.{sheet_lines, written, Fits}
+use Rattle.page.specs.Written.{sheet_lines, written}
+use Rattle.page_text.specs.Written.{Fits}
 use Rattle.page_text.specs.Laws.{ReadsBack}
 use Rattle.page_text.proofs.Returning.{lines_text_lem, map_text}
 

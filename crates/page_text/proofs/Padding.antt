@@ -7,9 +7,10 @@ use Rattle.std.proofs.lemmas.Bool.Decides.{nat_tests}
 use Rattle.page.specs.declared.line.Line.{Line}
 use Rattle.page.specs.declared.line.Line.TheVariants.{Align, Binding, Source, Draw}
 use Rattle.page.specs.Numbers.{is_digit, digits_only, value_after, number_of}
-use Rattle.page.specs.Texts.{fields_of, lines_of, on_first}
+use Rattle.page.specs.Texts.{fields_of, lines_of}
+use Rattle.std.specs.List.{onto_first}
 use Rattle.page.specs.Lines.{before, all_numbers, numbers_of, line_of}
-use Rattle.page_text.specs.Written.{line_text, lines_text}
+use Rattle.page.specs.Written.{line_text, lines_text}
 use Rattle.page_text.specs.Laws.{starts_digit, bare, unpadded}
 use Rattle.page_text.proofs.Ending.{ended}
 use Rattle.page.proofs.Fields.{fields_some, length_all}
@@ -75,7 +76,7 @@ commas [] = []
 commas (f ∷ []) = f
 commas (f ∷ g ∷ fs) = f ++ (44 ∷ commas (g ∷ fs))
 
-commas_first : (c : ℕ) (fs : List (List ℕ)) → commas (on_first c fs) ≡ c ∷ commas fs
+commas_first : (c : ℕ) (fs : List (List ℕ)) → commas (onto_first c fs) ≡ c ∷ commas fs
 commas_first c [] = refl
 commas_first c (f ∷ []) = refl
 commas_first c (f ∷ g ∷ fs) = refl
@@ -88,7 +89,7 @@ commas_fields : (bs : List ℕ) → commas (fields_of bs) ≡ bs
 unfolding fields_of
 commas_fields [] = refl
 commas_fields (c ∷ cs) =
-    cond_both (eqb c 44) ([] ∷ fields_of cs) (on_first c (fields_of cs)) (λ l. commas l ≡ c ∷ cs)
+    cond_both (eqb c 44) ([] ∷ fields_of cs) (onto_first c (fields_of cs)) (λ l. commas l ≡ c ∷ cs)
     (λ e. commas_more [] (fields_of cs) (fields_some cs) ∙ ap (λ (l : List ℕ). 44 ∷ l) (commas_fields cs) ∙ ap (λ (m : ℕ). m ∷ cs) (sym (eqb-true c 44 e)))
     (λ _. commas_first c (fields_of cs) ∙ ap (λ (l : List ℕ). c ∷ l) (commas_fields cs))
 
@@ -138,15 +139,15 @@ bare_lines (l ∷ ls) (x ∷ xs) e =
     bare_line l x (10 ∷ ended ls) (spelt l x h) refl ∙ ap (λ (m : List ℕ). line_text x ++ (10 ∷ m)) (bare_lines ls xs t)
 
 -- the lines of a text, each with its newline, are the text or the text with one newline more
-first_some : (c : ℕ) (ls : List (List ℕ)) → 0 < length (on_first c ls)
+first_some : (c : ℕ) (ls : List (List ℕ)) → 0 < length (onto_first c ls)
 first_some c [] = omega arith
 first_some c (l ∷ ls) = omega arith
 
 lines_some : (c : ℕ) (cs : List ℕ) → 0 < length (lines_of (c ∷ cs))
 unfolding lines_of
-lines_some c cs = cond_both (eqb c 10) ([] ∷ lines_of cs) (on_first c (lines_of cs)) (λ l. 0 < length l) (λ _. omega arith) (λ _. first_some c (lines_of cs))
+lines_some c cs = cond_both (eqb c 10) ([] ∷ lines_of cs) (onto_first c (lines_of cs)) (λ l. 0 < length l) (λ _. omega arith) (λ _. first_some c (lines_of cs))
 
-ended_first : (c : ℕ) (ls : List (List ℕ)) → 0 < length ls → ended (on_first c ls) ≡ c ∷ ended ls
+ended_first : (c : ℕ) (ls : List (List ℕ)) → 0 < length ls → ended (onto_first c ls) ≡ c ∷ ended ls
 unfolding ended
 ended_first c [] h = absurd (omega arith)
 ended_first c (l ∷ ls) h = refl
@@ -166,7 +167,7 @@ ended_lines (c ∷ []) =
 ended_lines (c ∷ d ∷ ds) =
     let h = ended_lines (d ∷ ds) in
     let ls : List (List ℕ) = lines_of (d ∷ ds) in
-    cond_both (eqb c 10) ([] ∷ ls) (on_first c ls) (λ l. Ended (ended l) (c ∷ d ∷ ds))
+    cond_both (eqb c 10) ([] ∷ ls) (onto_first c ls) (λ l. Ended (ended l) (c ∷ d ∷ ds))
     (λ e. subst (λ (m : ℕ). Ended (m ∷ ended ls) (c ∷ d ∷ ds)) (eqb-true c 10 e) (ended_more c (ended ls) (d ∷ ds) h))
     (λ _. subst (λ (es : List ℕ). Ended es (c ∷ d ∷ ds)) (sym (ended_first c ls (lines_some d ds))) (ended_more c (ended ls) (d ∷ ds) h))
 

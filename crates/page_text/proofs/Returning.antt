@@ -11,9 +11,10 @@ use Rattle.page.specs.declared.line.Line.TheVariants.{Align, Binding, Source, Dr
 use Rattle.page.specs.Numbers.{digits_only, value_after, number_of}
 use Rattle.page.specs.Texts.{Free, after_word, lines_of}
 use Rattle.page.specs.Lines.{and_then, before, numbers_of, draw_of, line_of}
-use Rattle.page_text.specs.Written.{line_text, lines_text, LineFits}
+use Rattle.page.specs.Written.{line_text, lines_text}
+use Rattle.page_text.specs.Written.{LineFits}
 use Rattle.page.proofs.Fields.{digits_free, number_alone, numbers_more}
-use Rattle.page.proofs.Lining.{lines_last, lines_more}
+use Rattle.page_text.proofs.Ending.{lines_last, lines_more}
 
 tells_own : IsDigitsTest (λ ds. digits_only ds ≡ true)
 unfolding digits_only

@@ -9,9 +9,11 @@ use Rattle.page.specs.declared.line.DrawLine.{DrawLine}
 use Rattle.page.specs.declared.line.Line.{Line}
 use Rattle.page.specs.declared.line.Line.TheVariants.{Align, Binding, Source, Draw}
 use Rattle.page.specs.Numbers.{digits_only, value_after, number_of}
-use Rattle.page.specs.Texts.{after_word, fields_of, on_first}
+use Rattle.page.specs.Texts.{after_word, fields_of}
+use Rattle.std.specs.List.{onto_first}
 use Rattle.page.specs.Lines.{and_then, before, all_numbers, numbers_of, draw_of, source_of, line_of, align_kind, binding_kind, source_kind, draw_kind}
-use Rattle.page_text.specs.Written.{line_text, LineFits}
+use Rattle.page.specs.Written.{line_text}
+use Rattle.page_text.specs.Written.{LineFits}
 use Rattle.page_text.proofs.Returning.{own}
 
 -- a number: its digits, its bound, and its length
@@ -40,7 +42,7 @@ abbrev pub total : List (List ℕ) → ℕ
 total [] = 0
 total (f ∷ fs) = (length f + 1) + total fs
 
-pub total_first : (c : ℕ) (fs : List (List ℕ)) → 0 < length fs → total (on_first c fs) ≡ total fs + 1
+pub total_first : (c : ℕ) (fs : List (List ℕ)) → 0 < length fs → total (onto_first c fs) ≡ total fs + 1
 total_first c [] h = absurd (omega arith)
 total_first c (f ∷ fs) h = omega arith
 
@@ -49,10 +51,10 @@ unfolding fields_of
 total_fields [] = (refl, omega arith)
 total_fields (c ∷ cs) =
     let h = total_fields cs in
-    cond_both (eqb c 44) ([] ∷ fields_of cs) (on_first c (fields_of cs)) (λ l. (total l ≡ suc (length cs) + 1) × (0 < length l))
+    cond_both (eqb c 44) ([] ∷ fields_of cs) (onto_first c (fields_of cs)) (λ l. (total l ≡ suc (length cs) + 1) × (0 < length l))
     (λ _. (omega arith, omega arith)) (λ _. (omega (arith, total_first c (fields_of cs) h.1), first_some (fields_of cs)))
   where
-    first_some : (ls : List (List ℕ)) → 0 < length (on_first c ls)
+    first_some : (ls : List (List ℕ)) → 0 < length (onto_first c ls)
     first_some [] = omega arith
     first_some (l ∷ ls) = omega arith
 

@@ -9,11 +9,13 @@ use Rattle.page.specs.declared.line.Line.{Line}
 use Rattle.page.specs.declared.line.Line.TheVariants.{Align, Binding, Source, Draw}
 use Rattle.page.specs.declared.stage.Stage.{Stage}
 use Rattle.page.specs.declared.stage.Stage.TheVariants.{Start, Aligned, Sources, Draws}
-use Rattle.page.specs.Texts.{Free, lines_of, on_first}
+use Rattle.page.specs.Texts.{Free, lines_of}
+use Rattle.std.specs.List.{onto_first}
 use Rattle.page.specs.Lines.{and_then, line_of}
 use Rattle.page.specs.Stages.{next_of, may_end}
 use Rattle.page.specs.Sheets.{Sheet, Parsed, good, bad, read_on, read_lines, read_page, added, empty}
-use Rattle.page_text.specs.Written.{line_text, LineFits}
+use Rattle.page.specs.Written.{line_text}
+use Rattle.page_text.specs.Written.{LineFits}
 use Rattle.page_text.specs.Laws.{Begins, FirstBad}
 use Rattle.page_text.proofs.Ending.{ended, lines_ended}
 use Rattle.page_text.proofs.Spelling.{total, spelt, Spelt, some_of}
@@ -125,9 +127,9 @@ free_lines : (bs : List ℕ) → AllByRecursion (Free 10) (lines_of bs)
 unfolding lines_of
 free_lines [] = tt
 free_lines (c ∷ cs) =
-    cond_both (eqb c 10) ([] ∷ lines_of cs) (on_first c (lines_of cs)) (λ l. AllByRecursion (Free 10) l) (λ _. (tt, free_lines cs)) (λ e. first e (lines_of cs) (free_lines cs))
+    cond_both (eqb c 10) ([] ∷ lines_of cs) (onto_first c (lines_of cs)) (λ l. AllByRecursion (Free 10) l) (λ _. (tt, free_lines cs)) (λ e. first e (lines_of cs) (free_lines cs))
   where
-    first : eqb c 10 ≡ false → (ls : List (List ℕ)) → AllByRecursion (Free 10) ls → AllByRecursion (Free 10) (on_first c ls)
+    first : eqb c 10 ≡ false → (ls : List (List ℕ)) → AllByRecursion (Free 10) ls → AllByRecursion (Free 10) (onto_first c ls)
     first e [] f = ((e, tt), tt)
     first e (l ∷ ls) f = ((e, f.0), f.1)
 

@@ -1,12 +1,13 @@
 -- what reading and writing have to do with each other, and why a line is bad
 use Rattle.std.specs.Prelude.{◌≡◌, ℕ, ◌+◌, ◌<◌, ◌≤◌, Bool, false, cond, not, ◌&&◌, ◌⊎◌, List, [], ◌∷◌, ◌++◌, map, length, take, Some, ◌==◌}
 use Rattle.page.specs.declared.read.ReadError.{ReadError}
-use Rattle.page.specs.declared.read.ReadError.TheVariants.{Bad, Memory}
+use Rattle.page.specs.declared.read.ReadError.TheVariants.{Bad, Memory, TooLong}
 use Rattle.page.specs.Numbers.{is_digit}
 use Rattle.page.specs.Texts.{lines_of}
 use Rattle.page.specs.Lines.{line_of}
 use Rattle.page.specs.Sheets.{Sheet, good, read_page}
-use Rattle.page_text.specs.Written.{Fits, sheet_lines, written}
+use Rattle.page.specs.Written.{sheet_lines, written}
+use Rattle.page_text.specs.Written.{Fits}
 
 -- a text of at most 65,536 bytes is read as the sheet, where the format can say that sheet
 abbrev pub ReadsBack : List ℕ → Sheet → Type 0
@@ -49,4 +50,5 @@ pub record FirstBad (text : List ℕ) (n : ℕ) : Type 0 where
 -- what the number of a bad line says
 abbrev pub Says : ReadError → List ℕ → Type 0
 Says (Bad n) text = FirstBad text n
+Says TooLong text = FirstBad text 0
 Says Memory text = Unit {0}

@@ -1,21 +1,13 @@
-use Rattle.std.proofs.Common.{◌≡◌, ℕ, List, get_or, take}
-use native.Mathlib.Nat.{sub-zero}
-use Rattle.std.proofs.lemmas.List.{take_all, take_more, take_rest}
-use Rattle.page.proofs.Parts.{free_push, cut_here}
+use Rattle.std.proofs.Common.{◌≡◌, false, eqb, Some, None, rules, tests}
+use Rattle.std.proofs.lemmas.Iterator.{IsFirst-from_position, YieldsList-from_slice}
+use Rattle.page.proofs.Parts.{first_place}
 use Rattle.page.proofs.text.cut.Goals as goal
 
-pub returns-then-byte-mark : goal.returns-then-byte-mark
-returns-then-byte-mark c =
-    let xs : List ℕ = c.args.text.now in
-    let i : ℕ = c.loop-i.i in
-    let e : get_or xs i 0 ≡ c.args.mark = c.if-byte-mark.true in
-    rw (sub-zero i, take_rest xs) (c.loop-i.invariant, cut_here xs i c.args.mark c.loop-i-test.true e)
-
-pub loop-i-preserved : goal.loop-i-preserved
-loop-i-preserved c =
-    let xs : List ℕ = c.args.text.now in
-    let i : ℕ = c.loop-i.i in
-    rw (take_more xs i 0 c.loop-i-test.true) (free_push c.args.mark (take i xs) (get_or xs i 0) c.loop-i.invariant c.if-byte-mark.false)
+pub returns-in_err-at : goal.returns-in_err-at
+returns-in_err-at c =
+    rw c.from_residual.ensures
+    (first_place c.args.mark c.args.text.now None (IsFirst-from_position _ _ None (λ x. x ≡ c.args.mark) (λ x. eqb x c.args.mark ≡ false) c.in_err-at.ensures.ran (YieldsList-from_slice c.args.text.now cc) (λ x q k. search (rules, tests)) (λ x q k. search (rules, tests))))
 
 pub returns : goal.returns
-returns c = rw (take_all c.loop-i.i c.args.text.now c.loop-i-test.false) at c.loop-i.invariant
+returns c =
+    first_place c.args.mark c.args.text.now (Some c.in_ok-at.at) (IsFirst-from_position _ _ (Some c.in_ok-at.at) (λ x. x ≡ c.args.mark) (λ x. eqb x c.args.mark ≡ false) c.in_ok-at.ensures.ran (YieldsList-from_slice c.args.text.now cc) (λ x q k. search (rules, tests)) (λ x q k. search (rules, tests)))

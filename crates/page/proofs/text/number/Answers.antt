@@ -1,23 +1,24 @@
 use Rattle.std.proofs.Common.{ℕ, ◌-◌, ◌<◌, ◌≤◌, List, length, get_or, sym, ◌∙◌, arith}
-use Rattle.page.proofs.Parts.{as_number, digit_range, digits_end, digits_more, digits_stop, not_digits, small_more, value_end, value_more}
+use Rattle.std.proofs.lemmas.Bool.Decides.{nat_tests}
+use Rattle.page.proofs.Parts.{as_number, digits_end, digits_more, digits_stop, not_digits, small_more, value_end, value_more}
 use Rattle.page.proofs.text.number.Goals as goal
 
-pub returns-then-not-is_digit : goal.returns-then-not-is_digit
-returns-then-not-is_digit c =
-    not_digits c.args.text.now (c.loop-byte.invariant.1 ∙ digits_stop c.args.text.now c.loop-byte.byte-index c.loop-byte-test.true (sym c.if-not-is_digit.ensures))
+pub returns-then-not-is_ascii_digit : goal.returns-then-not-is_ascii_digit
+returns-then-not-is_ascii_digit c =
+    not_digits c.args.text.now (c.loop-byte.invariant.1 ∙ digits_stop c.args.text.now c.loop-byte.byte-index c.loop-byte-test.true (sym c.if-not-is_ascii_digit.ensures.value))
 
 pub loop-byte-preserved : goal.loop-byte-preserved
 loop-byte-preserved c =
     let xs : List ℕ = c.args.text.now in
     let i : ℕ = c.loop-byte.byte-index in
     let h : i < length xs = c.loop-byte-test.true in
-    let d = sym c.if-not-is_digit.ensures in
-    let s = digit_range (get_or xs i 0) d in
-    (sym (value_more xs i h c.loop-byte.value) ∙ c.loop-byte.invariant.0, c.loop-byte.invariant.1 ∙ digits_more xs i h d, small_more c.loop-byte.value i (get_or xs i 0 - 48) c.loop-byte.invariant.2 (omega arith))
+    let d = sym c.if-not-is_ascii_digit.ensures.value in
+    rw c.from.ensures
+    (sym (value_more xs i h c.loop-byte.value) ∙ c.loop-byte.invariant.0, c.loop-byte.invariant.1 ∙ digits_more xs i h d, small_more c.loop-byte.value i (get_or xs i 0 - 48) c.loop-byte.invariant.2 (omega (arith, c.if-not-is_ascii_digit.ensures.cases)))
 
 pub returns : goal.returns
 returns c =
     let xs : List ℕ = c.args.text.now in
     let i : ℕ = c.loop-byte.byte-index in
     let end : length xs ≤ i = c.loop-byte-test.false in
-    c.number_below.ensures ∙ as_number xs c.loop-byte.value c.if-not-is_number_length.ensures (c.loop-byte.invariant.1 ∙ digits_end xs i end) (sym (value_end c.loop-byte.value xs i end) ∙ c.loop-byte.invariant.0)
+    as_number xs c.loop-byte.value c.ok.result (grind (arith, nat_tests)) (c.loop-byte.invariant.1 ∙ digits_end xs i end) (sym (value_end c.loop-byte.value xs i end) ∙ c.loop-byte.invariant.0) (grind (arith, nat_tests))

@@ -1,7 +1,7 @@
 use Rattle.std.proofs.Common.{ℕ, List, IfOk, IfErr, Ok, Err, Result}
 use Rattle.page.specs.declared.page.Page.{Page}
 use Rattle.page.specs.declared.read.ReadError.{ReadError}
-use Rattle.page.specs.declared.read.ReadError.TheVariants.{Bad, Memory}
+use Rattle.page.specs.declared.read.ReadError.TheVariants.{Bad, Memory, TooLong}
 use Rattle.page_text.specs.Laws.{Says, Spells}
 use Rattle.page.specs.Sheets.{Reads, read_page, sheet_of}
 use Rattle.page_text.proofs.Accepting.{spells}
@@ -15,7 +15,8 @@ module _ (text : List ℕ) where
 
   first : (r : Result Page ReadError) → Reads r (read_page text) → IfErr r (λ e. Says e text)
   first (Ok p) h = tt
-  first (Err (Bad n)) h = first_bad text n h
+  first (Err (Bad n)) h = first_bad text n h.0
+  first (Err TooLong) h = first_bad text 0 h
   first (Err Memory) h = tt
 
 pub returns : goal.returns

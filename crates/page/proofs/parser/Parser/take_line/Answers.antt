@@ -1,25 +1,32 @@
-use Rattle.std.proofs.Common.{◌+◌, map, sym, refl, ap, ◌∙◌}
-use Rattle.page.specs.Texts.{lines_of}
+use Rattle.std.proofs.Common.{◌≡◌, Some, None, refl, arith}
+use Rattle.std.proofs.lemmas.Result.{err_from_is_err_and}
+use Rattle.page.specs.declared.read.ReadError.TheVariants.{Bad}
 use Rattle.page.specs.Lines.{line_of}
-use Rattle.page.specs.Sheets.{Sheet, read_on, sheet_of}
+use Rattle.page.specs.Stages.{next_of}
+use Rattle.page.specs.Sheets.{sheet_of}
 use Rattle.page.proofs.Reading.{read_unread, read_astray, read_more}
 use Rattle.page.proofs.parser.Parser.take_line.Goals as goal
 
-pub returns-in_default : goal.returns-in_default
-returns-in_default c =
-    read_unread (lines_of c.args.self.now.rest.now) c.split_line.result.0.now (lines_of c.split_line.result.1.now) c.split_line.ensures.lines
-    c.args.self.now.stage c.args.self.now.number (sheet_of c.args.self.now.page) c.in_default.ensures
+pub returns-in_err-line : goal.returns-in_err-line
+returns-in_err-line c =
+    let p = c.args.self.now in
+    let exit = err_from_is_err_and c.from_residual.result c.from_residual.ensures.1 in
+    let unread : line_of c.args.text.now ≡ None = grind arith in
+    let same : c.in_err-line.field-0.0 ≡ Bad p.number = grind arith in
+    rw (exit.1, exit.2, same) ((λ ls. read_unread c.args.text.now ls p.stage p.number (sheet_of p.page) unread), refl)
 
-pub returns-in_default-next : goal.returns-in_default-next
-returns-in_default-next c =
-    read_astray (lines_of c.args.self.now.rest.now) c.split_line.result.0.now (lines_of c.split_line.result.1.now) c.split_line.ensures.lines
-    c.args.self.now.stage c.args.self.now.number (sheet_of c.args.self.now.page) c.in-Some.line c.in-Some.ensures c.in_default-next.ensures
+pub returns-in_err-stage : goal.returns-in_err-stage
+returns-in_err-stage c =
+    let p = c.args.self.now in
+    let exit = err_from_is_err_and c.from_residual-in_err-stage.result c.from_residual-in_err-stage.ensures.1 in
+    let astray : next_of p.stage c.in_ok-line.line ≡ None = grind arith in
+    let same : c.in_err-stage.field-0.0 ≡ Bad p.number = grind arith in
+    let line : line_of c.args.text.now ≡ Some c.in_ok-line.line = grind arith in
+    rw (exit.1, exit.2, same) ((λ ls. read_astray c.args.text.now ls p.stage p.number (sheet_of p.page) c.in_ok-line.line line astray), refl)
 
 pub returns : goal.returns
-returns c = (
-  ap (λ (p : Sheet). read_on (map line_of (lines_of c.split_line.result.1.now)) c.in-Some-next.stage (c.args.self.now.number + 1) p) c.in_ok-add.ensures
-      ∙ sym (read_more (lines_of c.args.self.now.rest.now) c.split_line.result.0.now (lines_of c.split_line.result.1.now) c.split_line.ensures.lines
-      c.args.self.now.stage c.args.self.now.number (sheet_of c.args.self.now.page) c.in-Some.line c.in-Some-next.stage c.in-Some.ensures c.in-Some-next.ensures),
-  refl,
-  c.split_line.ensures.shorter,
-)
+returns c =
+    let p = c.args.self.now in
+    let line : line_of c.args.text.now ≡ Some c.in_ok-line.line = grind arith in
+    let next : next_of p.stage c.in_ok-line.line ≡ Some c.in_ok-stage.stage = grind arith in
+    ((λ ls. rw c.in_ok-add.ensures (read_more c.args.text.now ls p.stage p.number (sheet_of p.page) c.in_ok-line.line c.in_ok-stage.stage line next)), refl)
