@@ -1,8 +1,8 @@
 -- What a command leaves.
-use Rattle.std.proofs.Common.{◌≡◌, ℕ, ◌/◌, ◌≤◌, Bool, true, false, ◌&&◌, eqb, List, length, get_or, take, drop, set, sym, refl, ap, ◌∙◌, ⊎_elim, arith, length-set, length-take}
+use Rattle.std.proofs.Common.{◌≡◌, ℕ, ◌/◌, ◌≤◌, Bool, true, false, eqb, List, length, get_or, take, drop, set, sym, refl, ap, ◌∙◌, ⊎_elim, arith, length-set, length-take}
 use lib.Seq.{length-sets}
 use Rattle.std.proofs.lemmas.List.{get_or-set_other, get_or-set_same, set_past}
-use Rattle.std.proofs.lemmas.Bool.{both_ways, cases_eq, cases_lt, cases_Bool, cond-true, cond-false, eqb-false, eq-eqb}
+use Rattle.std.proofs.lemmas.Bool.{both_ways, cases_eq, cases_lt, cond_both, eqb-false, eq-eqb}
 use Rattle.device.specs.declared.buffers.BufferRef.{BufferRef}
 use Rattle.device.specs.declared.buffers.BufferRef.TheVariants as buffer
 use Rattle.device.specs.declared.buffers.BufferUses.{BufferUses}
@@ -12,7 +12,7 @@ use Rattle.device.specs.declared.commands.Command.TheVariants.{Transition, Copy,
 use Rattle.device.specs.declared.commands.ValidationDispatch.{ValidationDispatch}
 use Rattle.device.specs.Calls.{block_of, block_words}
 use Rattle.device.specs.Dispatches.{dispatched, entries_of, pool_words, window}
-use Rattle.device.specs.Laws.{Leaves, answers, is_block, is_pool}
+use Rattle.device.specs.Laws.{Leaves, alters_buffer, answers, is_block, is_pool, writes}
 use Rattle.device.specs.Meaning.{Meaning, Holdings, Buffer, Block, no_buffer, no_block, with_mark}
 use Rattle.device.specs.Plays.{copied, lawful, obeyed, played, put_state, put_words, with_state, with_words}
 use Rattle.device.proofs.Drawing.{ran_length, ran_outside}
@@ -91,13 +91,47 @@ copied_few c h = simp length-take (omega arith)
 dispatched_length : (d : ValidationDispatch) (h : Holdings) → length (dispatched d h) ≡ length (pool_words d.destination h)
 dispatched_length d h = ran_length h.properties.first_instances (window d h) (entries_of d h) (pool_words d.destination h)
 
--- a test that only its second part can pass
-second : (x y : Bool) → x ≡ true → (x && y) ≡ false → y ≡ false
-second true y p e = e
-second false y p e = absurd (both_ways false refl p)
+abbrev with_after : Meaning → Bool → Bool → Meaning
+with_after m o k = record { holds = m.holds; pass_open = o; marked = k }
 
 never : (c : Command) (m n : Meaning) → lawful c m ≡ true → lawful c m ≡ false → n ≡ with_mark m
 never c m n yes-lawful no-lawful = absurd (both_ways (lawful c m) no-lawful yes-lawful)
+
+-- a command that leaves all that is held
+module _ (c : Command) (m : Meaning) where
+  held_stays : (o k : Bool) → (lawful c m ≡ false → with_after m o k ≡ with_mark m) → (lawful c m ≡ true → k ≡ m.marked) → Leaves c m (with_after m o k)
+  held_stays o k unlawful lawful_mark = record {
+    unlawful = unlawful;
+    mark = lawful_mark;
+    sources = refl;
+    answered = refl;
+    count = refl;
+    buffers = λ i _. refl;
+    kinds = λ i. refl;
+    lengths = λ i. refl;
+    words = λ i k _. refl;
+    blocks = λ i _. refl;
+    staged = λ i. refl;
+  }
+
+  -- a lawful one that writes as many words to a pool buffer as it has
+  written_only : (i : ℕ) (ws : List ℕ) → lawful c m ≡ true → length ws ≡ length (pool_words i m.holds)
+      → ((k : ℕ) → alters_buffer c k ≡ false → eqb i k ≡ false)
+      → ((k j : ℕ) → i ≡ k → writes c m.holds k j ≡ false → get_or ws j 0 ≡ get_or (pool_words i m.holds) j 0)
+      → Leaves c m (record { holds = put_words i ws m.holds; pass_open = m.pass_open; marked = m.marked })
+  written_only i ws ok long altered outside = record {
+    unlawful = never c m (record { holds = put_words i ws m.holds; pass_open = m.pass_open; marked = m.marked }) ok;
+    mark = λ _. refl;
+    sources = refl;
+    answered = refl;
+    count = words_count m.holds i ws long;
+    buffers = λ k e. other m.holds.pool i k (with_words ws (get_or m.holds.pool i no_buffer)) no_buffer (altered k e);
+    kinds = λ k. words_kind m.holds i ws long k;
+    lengths = λ k. words_length m.holds i ws long k;
+    words = λ k j out. words_word m.holds i ws long k j (λ p. outside k j p out);
+    blocks = λ k _. refl;
+    staged = λ k. refl;
+  }
 
 leaves_lawful : (c : Command) (m : Meaning) → lawful c m ≡ true → Leaves c m (obeyed c m)
 leaves_lawful (Transition b) m ok = record {
@@ -113,79 +147,22 @@ leaves_lawful (Transition b) m ok = record {
   blocks = λ i e. state_block b.to m.holds b.buffer i e;
   staged = λ i. state_staged b.to m.holds b.buffer i;
 }
-leaves_lawful (Copy c) m ok = record {
-  unlawful = never (Copy c) m (obeyed (Copy c) m) ok;
-  mark = λ _. refl;
-  sources = refl;
-  answered = refl;
-  count = words_count m.holds c.buffer (copied c m.holds) (copied_length c m.holds);
-  buffers = λ i e. other m.holds.pool c.buffer i (with_words (copied c m.holds) (get_or m.holds.pool c.buffer no_buffer)) no_buffer e;
-  kinds = λ i. words_kind m.holds c.buffer (copied c m.holds) (copied_length c m.holds) i;
-  lengths = λ i. words_length m.holds c.buffer (copied c m.holds) (copied_length c m.holds) i;
-  words = λ i k out. words_word m.holds c.buffer (copied c m.holds) (copied_length c m.holds) i k
-      (λ p. get_d_sets_outside (take (c.size / 4) (drop (c.src_offset / 4) (block_words c.block m.holds))) (pool_words c.buffer m.holds) (c.dst_offset / 4) (c.size / 4) k 0 (copied_few c m.holds) (second (eqb c.buffer i) _ (eq-eqb c.buffer i p) out));
-  blocks = λ i _. refl;
-  staged = λ i. refl;
-}
-leaves_lawful Begin m ok = record {
-  unlawful = never Begin m (obeyed Begin m) ok;
-  mark = λ _. refl;
-  sources = refl;
-  answered = refl;
-  count = refl;
-  buffers = λ i _. refl;
-  kinds = λ i. refl;
-  lengths = λ i. refl;
-  words = λ i k _. refl;
-  blocks = λ i _. refl;
-  staged = λ i. refl;
-}
-leaves_lawful (Dispatch d) m ok = record {
-  unlawful = never (Dispatch d) m (obeyed (Dispatch d) m) ok;
-  mark = λ _. refl;
-  sources = refl;
-  answered = refl;
-  count = words_count m.holds d.destination (dispatched d m.holds) (dispatched_length d m.holds);
-  buffers = λ i e. other m.holds.pool d.destination i (with_words (dispatched d m.holds) (get_or m.holds.pool d.destination no_buffer)) no_buffer e;
-  kinds = λ i. words_kind m.holds d.destination (dispatched d m.holds) (dispatched_length d m.holds) i;
-  lengths = λ i. words_length m.holds d.destination (dispatched d m.holds) (dispatched_length d m.holds) i;
-  words = λ i k out. words_word m.holds d.destination (dispatched d m.holds) (dispatched_length d m.holds) i k
-      (λ p. ran_outside m.holds.properties.first_instances (window d m.holds) (entries_of d m.holds) (pool_words d.destination m.holds) k (second (eqb d.destination i) _ (eq-eqb d.destination i p) out));
-  blocks = λ i _. refl;
-  staged = λ i. refl;
-}
-leaves_lawful End m ok = record {
-  unlawful = never End m (obeyed End m) ok;
-  mark = λ _. refl;
-  sources = refl;
-  answered = refl;
-  count = refl;
-  buffers = λ i _. refl;
-  kinds = λ i. refl;
-  lengths = λ i. refl;
-  words = λ i k _. refl;
-  blocks = λ i _. refl;
-  staged = λ i. refl;
-}
+leaves_lawful (Copy c) m ok =
+    written_only (Copy c) m c.buffer (copied c m.holds) ok (copied_length c m.holds) (λ _ e. e)
+    (λ i k p out. get_d_sets_outside (take (c.size / 4) (drop (c.src_offset / 4) (block_words c.block m.holds))) (pool_words c.buffer m.holds) (c.dst_offset / 4) (c.size / 4) k 0 (copied_few c m.holds) (rw (eq-eqb c.buffer i p) at out))
+leaves_lawful Begin m ok = held_stays Begin m true m.marked (never Begin m (obeyed Begin m) ok) (λ _. refl)
+leaves_lawful (Dispatch d) m ok =
+    written_only (Dispatch d) m d.destination (dispatched d m.holds) ok (dispatched_length d m.holds) (λ _ e. e)
+    (λ i k p out. ran_outside m.holds.properties.first_instances (window d m.holds) (entries_of d m.holds) (pool_words d.destination m.holds) k (rw (eq-eqb d.destination i p) at out))
+leaves_lawful End m ok = held_stays End m false m.marked (never End m (obeyed End m) ok) (λ _. refl)
 
 leaves_unlawful : (c : Command) (m : Meaning) → lawful c m ≡ false → Leaves c m (with_mark m)
-leaves_unlawful c m wrong = record {
-  unlawful = λ _. refl;
-  mark = λ right. absurd (both_ways (lawful c m) wrong right);
-  sources = refl;
-  answered = refl;
-  count = refl;
-  buffers = λ i _. refl;
-  kinds = λ i. refl;
-  lengths = λ i. refl;
-  words = λ i k _. refl;
-  blocks = λ i _. refl;
-  staged = λ i. refl;
-}
+leaves_unlawful c m wrong = held_stays c m m.pass_open true (λ _. refl) (λ right. absurd (both_ways (lawful c m) wrong right))
 
 pub leaves : (c : Command) (m : Meaning) → Leaves c m (played c m)
 leaves c m =
-    ⊎_elim
-    (λ right. rw (cond-true (lawful c m) (obeyed c m) (with_mark m) right) (leaves_lawful c m right))
-    (λ wrong. rw (cond-false (lawful c m) (obeyed c m) (with_mark m) wrong) (leaves_unlawful c m wrong))
-    (cases_Bool (lawful c m))
+    cond_both (lawful c m) (obeyed c m) (with_mark m) (λ n. Leaves c m n) (leaves_lawful c m) (leaves_unlawful c m)
+
+-- the same, where what the command makes of a device is known by an equation
+pub leaves_to : (c : Command) (m n : Meaning) → n ≡ played c m → Leaves c m n
+leaves_to c m n e = rw e (leaves c m)

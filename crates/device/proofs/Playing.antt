@@ -36,3 +36,7 @@ leaves_all (c ∷ cs) m =
     let rest = leaves_all cs (played c m) in
     let step = leaves c m in
     record { mark = λ h. rest.mark (marked_command c m h); sources = rest.sources ∙ step.sources; answered = rest.answered ∙ step.answered }
+
+-- the same, where what they make of a device is known by an equation
+pub leaves_all_to : (cs : List Command) (m n : Meaning) → n ≡ play_all cs m → LeavesAll m n
+leaves_all_to cs m n e = rw e (leaves_all cs m)

@@ -1,10 +1,11 @@
-ghost use Rattle.device.specs.Uses.{use_code, same_use};
+ghost use Rattle.device.specs.Uses.{use_code, use_from, resting_use};
 ghost use Rattle.std.specs.Prelude.{◌≡◌};
 
 /// What a buffer can be used for until a transition gives it another use.
-#[derive(Clone, Copy)]
+#[derive(Clone, Copy, Default, PartialEq, Eq)]
 pub enum BufferUses {
     /// The host fills it.
+    #[default]
     MapWrite,
     /// Copies read it.
     CopySrc,
@@ -18,12 +19,12 @@ pub enum BufferUses {
     Indirect,
 }
 
-impl BufferUses {
-    /// A number for each use, from 0 on.
-    pub fn code(self) -> u32
-        ensures { result ≡ use_code self }
-    {
-        match self {
+/// The number by which a word keeps a use, from 0 on.
+impl From<BufferUses> for u32 {
+    ghost from_gives = { λ kept code. code ≡ use_code kept };
+
+    fn from(kept: BufferUses) -> u32 {
+        match kept {
             BufferUses::MapWrite => 0,
             BufferUses::CopySrc => 1,
             BufferUses::CopyDst => 2,
@@ -32,32 +33,54 @@ impl BufferUses {
             BufferUses::Indirect => 5,
         }
     }
+}
 
-    /// Whether the two are one use.
-    pub fn is(self, other: BufferUses) -> bool
-        ensures { result ≡ same_use self other }
-    {
-        self.code() == other.code()
+/// The use that a word keeps by its number. A word may hold any number: one that names no use is read as the last.
+impl From<u32> for BufferUses {
+    ghost from_gives = { λ code kept. kept ≡ use_from code };
+
+    fn from(code: u32) -> BufferUses {
+        match code {
+            0 => BufferUses::MapWrite,
+            1 => BufferUses::CopySrc,
+            2 => BufferUses::CopyDst,
+            3 => BufferUses::StorageReadOnly,
+            4 => BufferUses::StorageReadWrite,
+            _ => BufferUses::Indirect,
+        }
     }
 }
 
 /// What a pool buffer is for.
-#[derive(Clone, Copy)]
+#[derive(Clone, Copy, Default, PartialEq, Eq)]
 pub enum PoolKind {
     /// The checked arguments of draws.
+    #[default]
     Destination,
     /// The entries that a dispatch reads.
     Metadata,
 }
 
+impl PoolKind {
+    /// The use in which a pool buffer is made, and which it has between runs.
+    pub fn resting_use(self) -> BufferUses
+        ensures { result ≡ resting_use self }
+    {
+        match self {
+            PoolKind::Destination => BufferUses::Indirect,
+            PoolKind::Metadata => BufferUses::StorageReadOnly,
+        }
+    }
+}
+
 /// The name of a staging block: blocks are numbered from 0 in the order in which they were opened.
-#[derive(Clone, Copy)]
+#[derive(Clone, Copy, PartialEq, Eq)]
 pub struct StagingBlock {
     pub number: usize,
 }
 
 /// A buffer whose use can be changed: a pool buffer by its number of making, or a staging block.
-#[derive(Clone, Copy)]
+#[derive(Clone, Copy, PartialEq, Eq)]
 pub enum BufferRef {
     Pool(usize),
     Staging(StagingBlock),

@@ -1,7 +1,7 @@
 use super::buffers::{BufferRef, BufferUses, StagingBlock};
 
 /// Gives a buffer another use. It has to be in the first one.
-#[derive(Clone, Copy)]
+#[derive(Clone, Copy, PartialEq, Eq)]
 pub struct BufferBarrier {
     pub buffer: BufferRef,
     pub from: BufferUses,
@@ -9,7 +9,7 @@ pub struct BufferBarrier {
 }
 
 /// Copies bytes of a staging block to a pool buffer.
-#[derive(Clone, Copy)]
+#[derive(Clone, Copy, PartialEq, Eq)]
 pub struct BufferCopy {
     pub block: StagingBlock,
     pub src_offset: u64,
@@ -21,7 +21,7 @@ pub struct BufferCopy {
 
 /// Checks a batch of entries: each reads the arguments of one draw in a window over a source, and writes them, or as
 /// many zeros, to the destination.
-#[derive(Clone, Copy)]
+#[derive(Clone, Copy, PartialEq, Eq)]
 pub struct ValidationDispatch {
     /// The pool buffer that holds the entries.
     pub metadata: usize,
@@ -40,10 +40,12 @@ pub struct ValidationDispatch {
 }
 
 /// What an encoder takes, as a value.
-#[derive(Clone, Copy)]
+#[derive(Clone, Copy, Default, PartialEq, Eq)]
 pub enum Command {
     Transition(BufferBarrier),
     Copy(BufferCopy),
+    /// The default: what the unused places of a table of commands hold.
+    #[default]
     Begin,
     Dispatch(ValidationDispatch),
     End,

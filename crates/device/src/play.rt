@@ -5,10 +5,13 @@ ghost use Rattle.std.specs.Prelude.{◌≡◌};
 use super::commands::Command;
 use super::interface::Encoder;
 
-// The command; its law stands on `play`.
-fn obey<E: Encoder>(encoder: &mut E, command: Command)
-    ensures { E.Device.means encoder.new ≡ played command (E.Device.means encoder.old) }
+/// Gives one command to an encoder.
+pub fn play<E: Encoder>(encoder: &mut E, command: Command)
+    ensures after { E.Device.means encoder.new ≡ played command (E.Device.means encoder.old) }
+    ensures leaves { Leaves command (E.Device.means encoder.old) (E.Device.means encoder.new) }
+    ensures mark { MarkNeverFalls }
 {
+    // Commands are values that encoders keep and compare, so they are told apart here and nowhere else.
     match command {
         Command::Transition(barrier) => encoder.transition(barrier),
         Command::Copy(region) => encoder.copy(region),
@@ -16,15 +19,6 @@ fn obey<E: Encoder>(encoder: &mut E, command: Command)
         Command::Dispatch(batch) => encoder.dispatch(batch),
         Command::End => encoder.end(),
     }
-}
-
-/// Gives one command to an encoder.
-pub fn play<E: Encoder>(encoder: &mut E, command: Command)
-    ensures after { E.Device.means encoder.new ≡ played command (E.Device.means encoder.old) }
-    ensures leaves { Leaves command (E.Device.means encoder.old) (E.Device.means encoder.new) }
-    ensures mark { MarkNeverFalls }
-{
-    obey(encoder, command);
 }
 
 /// Gives commands to an encoder, one after another.

@@ -1,5 +1,5 @@
 /// What a device was made with; nothing changes it.
-#[derive(Clone, Copy)]
+#[derive(Clone, Copy, PartialEq, Eq)]
 pub struct Properties {
     /// Windows over sources begin at multiples of this many bytes.
     pub alignment: u64,

@@ -1,15 +1,15 @@
 -- Staging blocks by their bookkeeping.
-use Rattle.std.proofs.Common.{◌≡◌, ℕ, zero, suc, ◌+◌, ◌-◌, ◌/◌, ◌%◌, ◌<◌, ◌≤◌, true, ltb, List, [], ◌∷◌, length, get_or, drop, set, refl, ap, ◌∙◌, le_of_suc-le-suc, not-suc-le-zero, arith}
+use Rattle.std.proofs.Common.{◌≡◌, ℕ, zero, suc, ◌+◌, ◌-◌, ◌/◌, ◌%◌, ◌<◌, ◌≤◌, true, List, [], ◌∷◌, length, get_or, drop, set, refl, ap, ◌∙◌, le_of_suc-le-suc, not-suc-le-zero, arith}
 use lib.Seq.{sets}
 use Rattle.std.proofs.lemmas.List.{get_or-drop, get_or-take}
-use Rattle.std.proofs.lemmas.Bool.{and_parts, eqb-true, ltb-true}
+use Rattle.std.proofs.lemmas.Bool.{eqb-true}
 use Rattle.device.specs.Calls.{block_bytes}
 use Rattle.device.specs.Meaning.{Block, no_block}
 use Rattle.direct_memory.specs.Cells.{Cell, cell, part, reads}
 use Rattle.direct_memory.specs.Layouts.{booked, end_of}
 use Rattle.direct_memory.specs.Views.{Shape, block_cells, block_from, blocks_in, books, books_at}
 use Rattle.direct_memory.proofs.Celling.{get_d_reads, reads_in}
-use Rattle.direct_memory.proofs.Shaping.{Fits, blocks_laid, books_room, length_block_cells}
+use Rattle.direct_memory.proofs.Shaping.{Fits, blocks_laid, booked_parts, books_room, length_block_cells}
 use Rattle.direct_memory.proofs.Wording.{length_part}
 
 -- the byte at which block i begins
@@ -26,14 +26,14 @@ start_more (r ∷ rs) from (suc i) h = start_more rs (end_of r) i (le_of_suc-le-
 pub start_below : (rs : List ℕ) (from used i : ℕ) → booked from rs used ≡ true → i < length rs → (start_of from rs i < end_of (get_or rs i 0)) × (end_of (get_or rs i 0) ≤ used)
 start_below [] from used i h l = absurd (not-suc-le-zero l)
 start_below (r ∷ []) from used zero h l =
-    let x = and_parts (ltb from (end_of r)) (booked (end_of r) [] used) h in
-    (ltb-true from (end_of r) x.0, omega (arith, eqb-true (end_of r) used x.1))
+    let x = booked_parts r [] from used h in
+    (x.0, omega (arith, eqb-true (end_of r) used x.1))
 start_below (r ∷ q ∷ rs) from used zero h l =
-    let x = and_parts (ltb from (end_of r)) (booked (end_of r) (q ∷ rs) used) h in
+    let x = booked_parts r (q ∷ rs) from used h in
     let y = start_below (q ∷ rs) (end_of r) used zero x.1 (omega arith) in
-    (ltb-true from (end_of r) x.0, omega (arith, y.0, y.1))
+    (x.0, omega (arith, y.0, y.1))
 start_below (r ∷ rs) from used (suc i) h l =
-    start_below rs (end_of r) used i (and_parts (ltb from (end_of r)) (booked (end_of r) rs used) h).1 (le_of_suc-le-suc l)
+    start_below rs (end_of r) used i (booked_parts r rs from used h).1 (le_of_suc-le-suc l)
 
 pub start_whole : (rs : List ℕ) (from i : ℕ) → from % 16 ≡ 0 → start_of from rs i % 16 ≡ 0
 start_whole rs from zero h = h
@@ -52,8 +52,8 @@ block_cell at (r ∷ rs) from (suc i) h = block_cell at rs (end_of r) i (le_of_s
 bytes_from : (at : ℕ) (rs : List ℕ) (from used : ℕ) (ws : List ℕ) → from % 16 ≡ 0 → booked from rs used ≡ true → at + used / 4 ≤ length ws → from + block_bytes (reads (block_cells at from rs) ws) ≡ used
 bytes_from at [] from used ws z h room = omega (arith, eqb-true from used h)
 bytes_from at (r ∷ rs) from used ws z h room =
-    let x = and_parts (ltb from (end_of r)) (booked (end_of r) rs used) h in
-    let less : from < end_of r = ltb-true from (end_of r) x.0 in
+    let x = booked_parts r rs from used h in
+    let less = x.0 in
     let rest : end_of r + block_bytes (reads (block_cells at (end_of r) rs) ws) ≡ used = bytes_from at rs (end_of r) used ws (omega arith) x.1 room in
     let long : length (part (at + from / 4) ((end_of r - from) / 4) ws) ≡ (end_of r - from) / 4 = length_part (at + from / 4) ((end_of r - from) / 4) ws (omega arith) in
     omega (arith, long)

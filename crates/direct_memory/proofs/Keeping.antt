@@ -2,19 +2,17 @@
 use Rattle.std.proofs.Common.{◌≡◌, ℕ, ◌+◌, ◌^◌, ◌<◌, ◌≤◌, true, List, [], ◌∷◌, length, get_or, drop, set, Some, None, vec_items, sym, ap, ◌∙◌, subst, arith}
 use lib.Seq.{sets, length-sets}
 use Rattle.std.specs.Vec.{with_items}
-use Rattle.std.proofs.lemmas.List.{get_or-drop, get_or-take, length-take-le, with_items_is}
+use Rattle.std.proofs.lemmas.List.{get_or-drop, get_or-take, with_items_is}
 use Rattle.std.proofs.ByRecursion.{All-from_get_or}
 use Rattle.std.proofs.lemmas.Bool.{le-ltb, lt-ltb}
-use Rattle.device.specs.Calls.{source_of}
 use Rattle.device.specs.Meaning.{Sound, SoundSource, Source, no_source, source_size}
 use Rattle.direct_memory.specs.Cells.{part}
 use Rattle.direct_memory.specs.Held.{shape}
 use Rattle.direct_memory.specs.Layouts.{booked, words_for}
 use Rattle.direct_memory.specs.Lies.{place_of}
 use Rattle.direct_memory.specs.Views.{books, books_at, pool_at, sources_in}
-use Rattle.direct_memory.specs.declared.layout.SourcePlace.{SourcePlace}
 use Rattle.direct_memory.specs.declared.memory.Memory.{Memory}
-use Rattle.direct_memory.proofs.Shaping.{Fits, no_place, count_sources, frame_books_above, frame_books_below, source_at_lem, source_end, source_small}
+use Rattle.direct_memory.proofs.Shaping.{Fits, count_sources, frame_books_above, frame_books_below, source_at_lem, source_end, source_small}
 use Rattle.direct_memory.proofs.Wording.{length_part}
 
 module _ (m : Memory) where
@@ -25,7 +23,6 @@ module _ (m : Memory) where
     small = m.numbers.small;
     within = m.numbers.fits;
     listed = m.numbers.listed;
-    counted = length-take-le m.numbers.made m.numbers.pool (omega arith);
     fewer = m.numbers.fewer;
     room = omega (arith, m.room, m.words.ok.0);
     booked = m.books;
@@ -37,45 +34,19 @@ module _ (m : Memory) where
 
   -- the bookkeeping after a write in the pool, or below the bookkeeping
   pub booked_above : (us vs : List ℕ) (k : ℕ) → us ≡ sets (vec_items m.words) k vs → pool_at (shape m.numbers) ≤ k → booked 0 (books (shape m.numbers) (vec_items (with_items m.words us))) m.numbers.used ≡ true
-  booked_above us vs k e h =
-      ap (λ t. booked 0 (books (shape m.numbers) t) m.numbers.used) (refilled_sets us vs k e)
-      ∙ ap (λ t. booked 0 t m.numbers.used) (frame_books_above (shape m.numbers) (vec_items m.words) fits vs k h)
-      ∙ m.books
+  booked_above us vs k e h = rw (refilled_sets us vs k e, frame_books_above (shape m.numbers) (vec_items m.words) fits vs k h) m.books
 
   pub booked_below : (us vs : List ℕ) (k : ℕ) → us ≡ sets (vec_items m.words) k vs → k + length vs ≤ books_at (shape m.numbers) → booked 0 (books (shape m.numbers) (vec_items (with_items m.words us))) m.numbers.used ≡ true
-  booked_below us vs k e h =
-      ap (λ t. booked 0 (books (shape m.numbers) t) m.numbers.used) (refilled_sets us vs k e)
-      ∙ ap (λ t. booked 0 t m.numbers.used) (frame_books_below (shape m.numbers) (vec_items m.words) fits vs k h)
-      ∙ m.books
+  booked_below us vs k e h = rw (refilled_sets us vs k e, frame_books_below (shape m.numbers) (vec_items m.words) fits vs k h) m.books
 
-  -- sources by number
-  pub source_count_lem : length (shape m.numbers).sources ≡ m.numbers.source_count
-  source_count_lem = length-take-le m.numbers.source_count m.numbers.sources (omega arith)
+  -- the bytes of a source
+  pub size_in : (i : ℕ) → i < length m.numbers.sources.items → source_size i (sources_in (shape m.numbers) (vec_items m.words)) ≡ Some (place_of m i).size
+  size_in i h =
+      rw (count_sources (shape m.numbers) (vec_items m.words) fits, lt-ltb i (length m.numbers.sources.items) h)
+      (ap (λ (x : Source). Some x.size) (source_at_lem (shape m.numbers) (vec_items m.words) fits i h))
 
-  pub source_listed : (i : ℕ) → i < m.numbers.source_count → i < length (shape m.numbers).sources
-  source_listed i h = rw source_count_lem h
-
-  pub source_place : (i : ℕ) → i < m.numbers.source_count → get_or (shape m.numbers).sources i no_place ≡ place_of m i
-  source_place i h = get_or-take m.numbers.source_count m.numbers.sources i no_place h
-
-  pub source_ends : (i : ℕ) → i < m.numbers.source_count → (place_of m i).start + words_for (place_of m i).size ≤ m.numbers.staging_start
-  source_ends i h =
-      let e = source_end (shape m.numbers) (vec_items m.words) fits i (source_listed i h) in
-      rw (source_place i h) at e
-
-  pub source_words : (i : ℕ) → i < m.numbers.source_count → get_or (sources_in (shape m.numbers) (vec_items m.words)) i no_source ≡ source_of (place_of m i).size (part (place_of m i).start (words_for (place_of m i).size) (vec_items m.words))
-  source_words i h =
-      source_at_lem (shape m.numbers) (vec_items m.words) fits i (source_listed i h)
-      ∙ ap (λ (p : SourcePlace). source_of p.size (part p.start (words_for p.size) (vec_items m.words))) (source_place i h)
-
-  pub sources_counted : length (sources_in (shape m.numbers) (vec_items m.words)) ≡ m.numbers.source_count
-  sources_counted = count_sources (shape m.numbers) (vec_items m.words) fits ∙ source_count_lem
-
-  pub size_in : (i : ℕ) → i < m.numbers.source_count → source_size i (sources_in (shape m.numbers) (vec_items m.words)) ≡ Some (place_of m i).size
-  size_in i h = rw (sources_counted, lt-ltb i m.numbers.source_count h) (ap (λ (x : Source). Some x.size) (source_words i h))
-
-  pub size_past : (i : ℕ) → m.numbers.source_count ≤ i → source_size i (sources_in (shape m.numbers) (vec_items m.words)) ≡ None
-  size_past i h = rw (sources_counted, le-ltb i m.numbers.source_count h)
+  pub size_past : (i : ℕ) → length m.numbers.sources.items ≤ i → source_size i (sources_in (shape m.numbers) (vec_items m.words)) ≡ None
+  size_past i h = rw (count_sources (shape m.numbers) (vec_items m.words) fits, le-ltb i (length m.numbers.sources.items) h)
 
   -- every source is sound, since every word has 32 bits
   pub sources_sound : ((i : ℕ) → get_or (vec_items m.words) i 0 < 2 ^ 32) → Sound (sources_in (shape m.numbers) (vec_items m.words))
@@ -83,19 +54,17 @@ module _ (m : Memory) where
     where
       sound_at : (i : ℕ) → i < length (sources_in (shape m.numbers) (vec_items m.words)) → SoundSource (get_or (sources_in (shape m.numbers) (vec_items m.words)) i no_source)
       sound_at i l =
-          let h : i < m.numbers.source_count = omega (arith, sources_counted) in
+          let h : i < length m.numbers.sources.items = omega (arith, count_sources (shape m.numbers) (vec_items m.words) fits) in
           let p = place_of m i in
           let ws = vec_items m.words in
-          let long : length (part p.start (words_for p.size) ws) ≡ words_for p.size = length_part p.start (words_for p.size) ws (omega (arith, source_ends i h, fits.room)) in
-          let size = source_small (shape m.numbers).sources 0 m.numbers.staging_start i m.numbers.laid (source_listed i h) in
+          let long : length (part p.start (words_for p.size) ws) ≡ words_for p.size = length_part p.start (words_for p.size) ws (omega (arith, source_end (shape m.numbers) ws fits i h, fits.room)) in
           let P : Source → Type 0 = λ s. SoundSource s in
-          subst P (sym (source_words i h)) (record {
-            small = rw (source_place i h) at size;
+          subst P (sym (source_at_lem (shape m.numbers) ws fits i h)) (record {
+            small = source_small m.numbers.sources.items 0 m.numbers.staging_start i m.numbers.laid h;
             whole = long;
             fits = All-from_get_or (λ w. w < 2 ^ 32) (part p.start (words_for p.size) ws) 0 (λ j k. rw (get_or-take (words_for p.size) (drop p.start ws) j 0 (omega (arith, long)), get_or-drop p.start ws j 0) (small (p.start + j)));
           })
 
   -- the bookkeeping after one word was written below it
   pub booked_set : (k v : ℕ) → k < books_at (shape m.numbers) → booked 0 (books (shape m.numbers) (set (vec_items m.words) k v)) m.numbers.used ≡ true
-  booked_set k v h =
-      ap (λ t. booked 0 t m.numbers.used) (frame_books_below (shape m.numbers) (vec_items m.words) fits (v ∷ []) k (omega arith)) ∙ m.books
+  booked_set k v h = rw (frame_books_below (shape m.numbers) (vec_items m.words) fits (v ∷ []) k (omega arith)) m.books

@@ -29,36 +29,42 @@ pub record Fits (s : Shape) (ws : List ℕ) : Type 0 where
   pub small : s.size < 2 ^ 32
   pub within : s.used ≤ s.size
   pub listed : 16 * s.blocks ≤ s.used
-  pub counted : length s.slots ≡ s.made
-  pub fewer : s.made ≤ s.most
+  pub fewer : length s.slots ≤ s.most
   pub room : pool_at s + s.most * buffer_words s ≤ length ws
   pub booked : booked 0 (books s ws) s.used ≡ true
 
 -- sources
+laid_parts : (p : SourcePlace) (ps : List SourcePlace) (a b : ℕ) → laid_sources a (p ∷ ps) b ≡ true → (p.start ≡ a) × (p.size < 2 ^ 32) × (laid_sources (a + words_for p.size) ps b ≡ true)
+laid_parts p ps a b h =
+    let x = and_parts (eqb p.start a) (ltb p.size (2 ^ 32) && laid_sources (a + words_for p.size) ps b) h in
+    let y = and_parts (ltb p.size (2 ^ 32)) (laid_sources (a + words_for p.size) ps b) x.1 in
+    (eqb-true p.start a x.0, ltb-true p.size (2 ^ 32) y.0, y.1)
+
 sources_from : (ps : List SourcePlace) (a b : ℕ) → laid_sources a ps b ≡ true → Laid a (map source_cell ps) b
 sources_from [] a b h = eqb-true a b h
 sources_from (p ∷ ps) a b h =
-    let x = and_parts (eqb p.start a) (ltb p.size (2 ^ 32) && laid_sources (a + words_for p.size) ps b) h in
-    let y = and_parts (ltb p.size (2 ^ 32)) (laid_sources (a + words_for p.size) ps b) x.1 in
-    (eqb-true p.start a x.0, sources_from ps (a + words_for p.size) b y.1)
+    let x = laid_parts p ps a b h in
+    (x.0, sources_from ps (a + words_for p.size) b x.2)
 
 pub source_small : (ps : List SourcePlace) (a b i : ℕ) → laid_sources a ps b ≡ true → i < length ps → (get_or ps i no_place).size < 2 ^ 32
 source_small [] a b i h l = absurd (not-suc-le-zero l)
-source_small (p ∷ ps) a b zero h l =
-    ltb-true p.size (2 ^ 32) (and_parts (ltb p.size (2 ^ 32)) (laid_sources (a + words_for p.size) ps b) (and_parts (eqb p.start a) (ltb p.size (2 ^ 32) && laid_sources (a + words_for p.size) ps b) h).1).0
-source_small (p ∷ ps) a b (suc i) h l =
-    source_small ps (a + words_for p.size) b i (and_parts (ltb p.size (2 ^ 32)) (laid_sources (a + words_for p.size) ps b) (and_parts (eqb p.start a) (ltb p.size (2 ^ 32) && laid_sources (a + words_for p.size) ps b) h).1).1 (le_of_suc-le-suc l)
+source_small (p ∷ ps) a b zero h l = (laid_parts p ps a b h).1
+source_small (p ∷ ps) a b (suc i) h l = source_small ps (a + words_for p.size) b i (laid_parts p ps a b h).2 (le_of_suc-le-suc l)
 
 -- blocks
 end_whole : (r : ℕ) → end_of r % 16 ≡ 0
 end_whole r = omega arith
 
+pub booked_parts : (r : ℕ) (rs : List ℕ) (from used : ℕ) → booked from (r ∷ rs) used ≡ true → (from < end_of r) × (booked (end_of r) rs used ≡ true)
+booked_parts r rs from used h =
+    let x = and_parts (ltb from (end_of r)) (booked (end_of r) rs used) h in
+    (ltb-true from (end_of r) x.0, x.1)
+
 blocks_from : (at : ℕ) (rs : List ℕ) (from used : ℕ) → from % 16 ≡ 0 → booked from rs used ≡ true → Laid (at + from / 4) (block_cells at from rs) (at + used / 4)
 blocks_from at [] from used z h = ap (λ (k : ℕ). at + k / 4) (eqb-true from used h)
 blocks_from at (r ∷ rs) from used z h =
-    let x = and_parts (ltb from (end_of r)) (booked (end_of r) rs used) h in
-    let less : from < end_of r = ltb-true from (end_of r) x.0 in
-    let e : at + end_of r / 4 ≡ at + from / 4 + (end_of r - from) / 4 = omega arith in
+    let x = booked_parts r rs from used h in
+    let e : at + end_of r / 4 ≡ at + from / 4 + (end_of r - from) / 4 = omega (arith, x.0) in
     (refl, rw (← e) (blocks_from at rs (end_of r) used (end_whole r) x.1))
 
 pub length_block_cells : (at : ℕ) (rs : List ℕ) (from : ℕ) → length (block_cells at from rs) ≡ length rs
@@ -153,34 +159,31 @@ module _ (s : Shape) (ws : List ℕ) (f : Fits s ws) where
   source_past i h = let l : length (sources_in s ws) ≤ i = rw count_sources h in get_or_past (sources_in s ws) i no_source l
 
   -- pool buffers, by number
-  pub count_pool : length (pool_in s ws) ≡ s.made
-  count_pool = length_reads (pool_cells s.slots (pool_at s) (buffer_words s)) ws ∙ length_pool_cells s.slots (pool_at s) (buffer_words s) ∙ f.counted
+  pub count_pool : length (pool_in s ws) ≡ length s.slots
+  count_pool = length_reads (pool_cells s.slots (pool_at s) (buffer_words s)) ws ∙ length_pool_cells s.slots (pool_at s) (buffer_words s)
 
-  slot_counted : (i : ℕ) → i < s.made → i < length s.slots
-  slot_counted i h = rw f.counted h
-
-  pub buffer_at_lem : (i : ℕ) → i < s.made → get_or (pool_in s ws) i no_buffer ≡ buffer_of (get_or s.slots i no_slot) (part (pool_at s + i * buffer_words s) (buffer_words s) ws)
+  pub buffer_at_lem : (i : ℕ) → i < length s.slots → get_or (pool_in s ws) i no_buffer ≡ buffer_of (get_or s.slots i no_slot) (part (pool_at s + i * buffer_words s) (buffer_words s) ws)
   buffer_at_lem i h =
-      get_d_reads (pool_cells s.slots (pool_at s) (buffer_words s)) ws i no_pool_cell no_buffer (rw (length_pool_cells s.slots (pool_at s) (buffer_words s)) (slot_counted i h))
-      ∙ ap (λ (c : Cell Buffer). c.read (part c.start c.size ws)) (pool_cell s.slots (pool_at s) (buffer_words s) i (slot_counted i h))
+      get_d_reads (pool_cells s.slots (pool_at s) (buffer_words s)) ws i no_pool_cell no_buffer (rw (length_pool_cells s.slots (pool_at s) (buffer_words s)) h)
+      ∙ ap (λ (c : Cell Buffer). c.read (part c.start c.size ws)) (pool_cell s.slots (pool_at s) (buffer_words s) i h)
 
   pub buffer_end : (i : ℕ) → i < s.most → pool_at s + i * buffer_words s + buffer_words s ≤ length ws
   buffer_end i h =
       let more : (i + 1) * buffer_words s ≤ s.most * buffer_words s = mul-le-mul_right (buffer_words s) (omega arith) in
       omega (arith, f.room, add-mul i 1 (buffer_words s))
 
-  pub buffer_long : (i : ℕ) → i < s.made → length (get_or (pool_in s ws) i no_buffer).words ≡ buffer_words s
+  pub buffer_long : (i : ℕ) → i < length s.slots → length (get_or (pool_in s ws) i no_buffer).words ≡ buffer_words s
   buffer_long i h =
       ap (λ (x : Buffer). length x.words) (buffer_at_lem i h)
       ∙ length_part (pool_at s + i * buffer_words s) (buffer_words s) ws (buffer_end i (omega (arith, f.fewer)))
 
   -- a write inside a pool buffer
-  pub pool_written : (i off k : ℕ) (vs : List ℕ) → i < s.made → k ≡ pool_at s + i * buffer_words s + off → off + length vs ≤ buffer_words s
+  pub pool_written : (i off k : ℕ) (vs : List ℕ) → i < length s.slots → k ≡ pool_at s + i * buffer_words s + off → off + length vs ≤ buffer_words s
       → pool_in s (sets ws k vs) ≡ set (pool_in s ws) i (buffer_of (get_or s.slots i no_slot) (sets (part (pool_at s + i * buffer_words s) (buffer_words s) ws) off vs))
   pool_written i off k vs h e l =
       let cs = pool_cells s.slots (pool_at s) (buffer_words s) in
-      let c : get_or (pool_cells s.slots (pool_at s) (buffer_words s)) i no_pool_cell ≡ cell (pool_at s + i * buffer_words s) (buffer_words s) (buffer_of (get_or s.slots i no_slot)) = pool_cell s.slots (pool_at s) (buffer_words s) i (slot_counted i h) in
-      reads_in cs (pool_at s) (pool_at s + length s.slots * buffer_words s) vs ws i off k no_pool_cell pool_laid (rw (length_pool_cells s.slots (pool_at s) (buffer_words s)) (slot_counted i h)) (rw c e) (rw c l)
+      let c : get_or (pool_cells s.slots (pool_at s) (buffer_words s)) i no_pool_cell ≡ cell (pool_at s + i * buffer_words s) (buffer_words s) (buffer_of (get_or s.slots i no_slot)) = pool_cell s.slots (pool_at s) (buffer_words s) i h in
+      reads_in cs (pool_at s) (pool_at s + length s.slots * buffer_words s) vs ws i off k no_pool_cell pool_laid (rw (length_pool_cells s.slots (pool_at s) (buffer_words s)) h) (rw c e) (rw c l)
       ∙ ap (λ (x : Cell Buffer). set (pool_in s ws) i (x.read (sets (part x.start x.size ws) off vs))) c
 
   -- blocks, by number

@@ -1,5 +1,5 @@
 -- What a direct device's memory holds.
-use Rattle.std.specs.Prelude.{cond, take, vec_items}
+use Rattle.std.specs.Prelude.{cond, vec_items}
 use Rattle.device.specs.Meaning.{Holdings}
 use Rattle.device.specs.Plays.{carried, lies}
 use Rattle.device.specs.declared.commands.Command.{Command}
@@ -9,13 +9,12 @@ use Rattle.direct_memory.specs.declared.numbers.Numbers.{Numbers}
 
 abbrev pub shape : Numbers → Shape
 shape n = record {
-  sources = take n.source_count n.sources;
+  sources = n.sources.items;
   staging = n.staging_start;
   size = n.staging_size;
   blocks = n.blocks;
   used = n.used;
-  slots = take n.made n.pool;
-  made = n.made;
+  slots = n.pool.items;
   most = n.most;
   properties = n.properties;
 }

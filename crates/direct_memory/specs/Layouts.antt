@@ -1,7 +1,5 @@
 -- How the words of a direct device are cut.
-use Rattle.std.specs.Prelude.{ℕ, ◌+◌, ◌*◌, ◌/◌, ◌^◌, Bool, cond, ◌&&◌, List, [], ◌∷◌, ◌==◌, nat_lt}
-use Rattle.device.specs.declared.buffers.BufferUses.{BufferUses}
-use Rattle.device.specs.declared.buffers.BufferUses.TheVariants.{MapWrite, CopySrc, CopyDst, StorageReadOnly, StorageReadWrite, Indirect}
+use Rattle.std.specs.Prelude.{ℕ, ◌+◌, ◌*◌, ◌/◌, ◌^◌, Bool, ◌&&◌, List, [], ◌∷◌, ◌==◌, nat_lt}
 use Rattle.direct_memory.specs.declared.layout.SourcePlace.{SourcePlace}
 
 -- the words of so many bytes, the last of them perhaps in part
@@ -16,10 +14,6 @@ laid_sources a (s ∷ ss) b = s.start == a && (nat_lt s.size (2 ^ 32) && laid_so
 -- what the bookkeeping word of a staging block says: the byte at which the block ends, and its use
 abbrev pub end_of : ℕ → ℕ
 end_of r = r / 16 * 16
-
-abbrev pub use_from : ℕ → BufferUses
-use_from n =
-    cond (n == 0) MapWrite (cond (n == 1) CopySrc (cond (n == 2) CopyDst (cond (n == 3) StorageReadOnly (cond (n == 4) StorageReadWrite Indirect))))
 
 -- blocks one after another, none of them empty, from a byte to the last that is used
 abbrev pub booked : ℕ → List ℕ → ℕ → Bool

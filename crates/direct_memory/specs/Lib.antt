@@ -1,5 +1,7 @@
+pub mod CanRun
 pub mod Cells
 pub mod Held
 pub mod Layouts
 pub mod Lies
+pub mod Regions
 pub mod Views

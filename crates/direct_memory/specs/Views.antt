@@ -1,14 +1,15 @@
 -- What words mean that are cut so.
-use Rattle.std.specs.Prelude.{ℕ, ◌+◌, ◌-◌, ◌/◌, ◌%◌, List, [], ◌∷◌, map}
+use Rattle.std.specs.Prelude.{ℕ, ◌+◌, ◌-◌, ◌/◌, ◌%◌, List, [], ◌∷◌, map, length}
 use Rattle.device.specs.Calls.{block_of, source_of}
+use Rattle.device.specs.Uses.{use_from}
 use Rattle.device.specs.Meaning.{Block, Buffer, Holdings, Source}
 use Rattle.device.specs.declared.properties.Properties.{Properties}
 use Rattle.direct_memory.specs.Cells.{Cell, cell, part, reads}
-use Rattle.direct_memory.specs.Layouts.{end_of, use_from, words_for}
+use Rattle.direct_memory.specs.Layouts.{end_of, words_for}
 use Rattle.direct_memory.specs.declared.layout.PoolSlot.{PoolSlot}
 use Rattle.direct_memory.specs.declared.layout.SourcePlace.{SourcePlace}
 
--- the numbers that say how words are cut: sources and pool buffers as far as there are any
+-- the numbers that say how words are cut
 pub record Shape : Type 0 where
   pub sources : List SourcePlace
   pub staging : ℕ
@@ -16,7 +17,6 @@ pub record Shape : Type 0 where
   pub blocks : ℕ
   pub used : ℕ
   pub slots : List PoolSlot
-  pub made : ℕ
   pub most : ℕ
   pub properties : Properties
 
@@ -65,6 +65,6 @@ holdings s ws = record {
   sources = sources_in s ws;
   pool = pool_in s ws;
   staging = record { blocks = blocks_in s ws; free = s.size - s.used };
-  makeable = s.most - s.made;
+  makeable = s.most - length s.slots;
   properties = s.properties;
 }

@@ -1,31 +1,29 @@
-ghost use Rattle.std.specs.Prelude.{◌≡◌, ℕ, ◌+◌, ◌*◌, ◌/◌, ◌≤◌, true, ◌⊎◌, length, drop};
+ghost use Rattle.std.specs.Prelude.{◌≡◌, ℕ, ◌+◌, ◌-◌, ◌/◌, ◌<◌, ◌≤◌, true, ◌⊎◌, List, ◌++◌, length};
 ghost use Rattle.device.specs.Dispatches.{all_inside, drawn, entries_from, inside, place_at, place_words, ran};
-ghost use Rattle.direct_memory.specs.Cells.{part};
+ghost use Rattle.direct_memory.specs.Regions.{words_of};
+ghost use Rattle.direct_memory.specs.CanRun.{CanRun};
 ghost use Rattle.entry.specs.Entries.{entry_from};
-ghost use Rattle.entry.specs.Verdicts.{word_count};
 ghost use Rattle.std.proofs.lemmas.List.Edits.{sets};
 
 use super::words::{Region, write};
-use command::family::{DrawCommandFamily, get_dst_stride_of_indirect_args};
+use command::family::{get_dst_stride_of_indirect_args, get_src_stride_of_indirect_args};
 use entry::metadata::MetadataEntry;
 
-/// How many words the arguments of a draw have.
-fn argument_words(family: DrawCommandFamily) -> u64
-    ensures { result ≡ word_count family }
-{
-    match family {
-        DrawCommandFamily::Draw => 4,
-        DrawCommandFamily::DrawIndexed => 5,
-    }
+/// The parts of a list of words that a dispatch is about: it reads entries and a window, and writes a destination.
+#[derive(Clone, Copy)]
+pub struct Parts {
+    pub entries: Region,
+    pub window: Region,
+    pub destination: Region,
 }
 
-/// Whether an entry reads inside a window and writes inside a destination of so many words.
-fn is_inside(entry: &MetadataEntry, window: usize, destination: usize) -> bool
-    ensures { result ≡ inside window destination entry.now }
+/// Whether the entry of four words reads inside a window and writes inside a destination of so many words.
+fn is_inside(words: &[u32; 4], window: usize, destination: usize) -> bool
+    ensures { result ≡ inside window destination (entry_from words.now) }
 {
-    let entry = entry.unpack();
-    let read = entry.src_offset / 4 + argument_words(entry.family);
-    let written = entry.dst_offset / 4 + get_dst_stride_of_indirect_args(entry.family) / 4;
+    let entry = MetadataEntry::from(*words).unpack();
+    let read = (entry.src_offset + get_src_stride_of_indirect_args(entry.family)) / 4;
+    let written = (entry.dst_offset + get_dst_stride_of_indirect_args(entry.family)) / 4;
     read <= window as u64 && written <= destination as u64
 }
 
@@ -33,72 +31,67 @@ fn is_inside(entry: &MetadataEntry, window: usize, destination: usize) -> bool
 pub(crate) fn all_inside(entries: &[u32], window: usize, destination: usize) -> bool
     ensures { result ≡ all_inside window destination (entries_from entries.now (length entries.now / 4)) }
 {
-    let mut left = entries;
-    while let [source, place, limit, instances, rest @ ..] = left {
-        let entry = MetadataEntry::from([*source, *place, *limit, *instances]);
-        if !is_inside(&entry, window, destination) {
-            return false;
-        }
-        left = rest;
-    }
-    true
-}
-
-/// The entry of the four words at a place.
-fn entry_at(words: &[u32], at: usize) -> MetadataEntry
-    requires { at + 4 ≤ length words.now }
-    ensures { result ≡ entry_from (drop at words.now) }
-{
-    MetadataEntry::from([words[at], words[at + 1], words[at + 2], words[at + 3]])
+    let (entries, _) = entries.as_chunks::<4>();
+    entries
+        .iter()
+        .all(|words| is_inside(words, window, destination))
 }
 
 /// Writes what the check of one entry leaves of its arguments to its place in the destination.
-fn run_entry(
-    words: &mut [u32],
-    at: usize,
-    window: Region,
-    destination: usize,
-    first_instances: bool,
-)
-    requires entry { at + 4 ≤ length words.old }
-    requires window { window.start + window.size ≤ length words.old }
-    requires place { destination + place_at (entry_from (drop at words.old)) + place_words (entry_from (drop at words.old)) ≤ length words.old }
-    ensures { words.new ≡ sets words.old (destination + place_at (entry_from (drop at words.old))) (drawn first_instances (part window.start window.size words.old) (entry_from (drop at words.old))) }
+fn run_entry(destination: &mut [u32], entry: &MetadataEntry, window: &[u32], first_instances: bool)
+    requires { place_at entry.now + place_words entry.now ≤ length destination.old }
+    ensures { destination.new ≡ sets destination.old (place_at entry.now) (drawn first_instances window.now entry.now) }
 {
-    let entry = entry_at(words, at);
-    let start = window.start;
-    let end = start + window.size;
-    let Some(arguments) = entry.validate(&words[start..end], first_instances) else {
+    let Some(arguments) = entry.validate(window, first_instances) else {
         return;
     };
     let place = (entry.unpack().dst_offset / 4) as usize;
-    write(words, destination + place, arguments.words());
+    write(destination, place, arguments.words());
 }
 
-/// Writes what the checks of `count` entries leave of their arguments, one after another.
-pub(crate) fn run(
-    words: &mut [u32],
-    entries: usize,
-    count: usize,
-    window: Region,
-    destination: Region,
-    first_instances: bool,
-)
-    requires entries { entries + 4 * count ≤ length words.old }
-    requires window { window.start + window.size ≤ length words.old }
-    requires destination { destination.start + destination.size ≤ length words.old }
-    requires listed { (entries + 4 * count ≤ destination.start) ⊎ (destination.start + destination.size ≤ entries) }
-    requires bound { (window.start + window.size ≤ destination.start) ⊎ (destination.start + destination.size ≤ window.start) }
-    requires inside { all_inside window.size destination.size (entries_from (drop entries words.old) count) ≡ true }
-    ensures { words.new ≡ sets words.old destination.start (ran first_instances (part window.start window.size words.old) (entries_from (drop entries words.old) count) (part destination.start destination.size words.old)) }
+/// Writes what the checks of entries leave of their arguments, one after another.
+fn run_entries(destination: &mut [u32], entries: &[u32], window: &[u32], first_instances: bool)
+    requires { all_inside (length window.now) (length destination.old) (entries_from entries.now (length entries.now / 4)) ≡ true }
+    ensures { destination.new ≡ ran first_instances window.now (entries_from entries.now (length entries.now / 4)) destination.old }
 {
-    for i in 0..count {
+    let (entries, _) = entries.as_chunks::<4>();
+    for words in entries {
         run_entry(
-            words,
-            entries + 4 * i,
+            destination,
+            &MetadataEntry::from(*words),
             window,
-            destination.start,
             first_instances,
         );
     }
+}
+
+/// The words of a region of three lists that stand one after another. It ends before the middle one begins, or begins
+/// where that ends, at `end`, or after.
+fn beside<'a>(below: &'a [u32], above: &'a [u32], end: usize, region: Region) -> &'a [u32]
+    requires before { region.start < end → region.start + region.size ≤ length below.now }
+    requires behind { end ≤ region.start → region.start + region.size ≤ end + length above.now }
+    ensures { (middle : List ℕ) → length below.now + length middle ≡ end → result.now ≡ words_of region (below.now ++ (middle ++ above.now)) }
+{
+    if region.start < end {
+        return region.of(below);
+    }
+    let region = Region {
+        start: region.start - end,
+        size: region.size,
+    };
+    region.of(above)
+}
+
+/// Writes what the checks of the entries leave of their arguments, one after another. Of the words only those of the
+/// destination are lent for writing, so that no entry changes another or the window.
+pub(crate) fn run(words: &mut [u32], parts: Parts, first_instances: bool)
+    requires { CanRun parts words.old }
+    ensures { words.new ≡ sets words.old parts.destination.start (ran first_instances (words_of parts.window words.old) (entries_from (words_of parts.entries words.old) (parts.entries.size / 4)) (words_of parts.destination words.old)) }
+{
+    let end = parts.destination.end();
+    let (below, rest) = words.split_at_mut(parts.destination.start);
+    let (destination, above) = rest.split_at_mut(parts.destination.size);
+    let entries = beside(below, above, end, parts.entries);
+    let window = beside(below, above, end, parts.window);
+    run_entries(destination, entries, window, first_instances);
 }

@@ -1,30 +1,20 @@
-ghost use Rattle.std.specs.Prelude.{◌≡◌, ℕ, ◌+◌, ◌*◌, ◌/◌, ◌<◌, ◌≤◌, length, if◌then◌else◌, Some, None, vec_len};
+ghost use Rattle.std.specs.Prelude.{◌≡◌, ℕ, ◌+◌, ◌*◌, ◌<◌, length, if◌then◌else◌, Some, None};
 ghost use Rattle.direct_memory.specs.Held.{held, shape};
+ghost use Rattle.direct_memory.specs.Regions.{Inside};
 ghost use Rattle.direct_memory.specs.Views.{buffer_words, pool_at};
 ghost use Rattle.device.specs.Calls.{can_make, grown};
-ghost use Rattle.device.specs.Uses.{resting_use};
 
 use super::Memory;
 use crate::layout::PoolSlot;
-use crate::words::{Region, zero};
-use device::buffers::{BufferUses, PoolKind};
-
-/// The use in which a pool buffer is made.
-fn resting_use(kind: PoolKind) -> BufferUses
-    ensures { result ≡ resting_use kind }
-{
-    match kind {
-        PoolKind::Destination => BufferUses::Indirect,
-        PoolKind::Metadata => BufferUses::StorageReadOnly,
-    }
-}
+use crate::words::Region;
+use device::buffers::PoolKind;
 
 impl Memory {
     /// How many more pool buffers can be made.
     pub fn makeable(&self) -> usize
         ensures { result ≡ (held self.now).makeable }
     {
-        self.numbers.most - self.numbers.made
+        self.numbers.most - self.numbers.pool.len()
     }
 
     /// Where the pool begins.
@@ -39,7 +29,7 @@ impl Memory {
     fn buffer_region(&self, number: usize) -> Region
         requires { number < self.now.numbers.most }
         ensures value { result ≡ record { start = pool_at (shape self.now.numbers) + number * buffer_words (shape self.now.numbers); size = buffer_words (shape self.now.numbers) } }
-        ensures room { result.start + result.size ≤ vec_len self.now.words }
+        ensures room { Inside result self.now.words.items }
     {
         let size = (self.numbers.properties.buffer_size / 4) as usize;
         Region {
@@ -53,17 +43,15 @@ impl Memory {
         ensures answer { result ≡ (if can_make (held self.old) then Some (length (held self.old).pool) else None) }
         ensures after { held self.new ≡ (if can_make (held self.old) then grown kind (held self.old) else held self.old) }
     {
-        let made = self.numbers.made;
+        let made = self.numbers.pool.len();
         if made == self.numbers.most {
             return None;
         }
-        let region = self.buffer_region(made);
-        zero(&mut self.words, region);
-        self.numbers.pool[made] = PoolSlot {
+        self.buffer_region(made).zero(&mut self.words);
+        self.numbers.pool.push(PoolSlot {
             kind,
-            state: resting_use(kind),
-        };
-        self.numbers.made += 1;
+            state: kind.resting_use(),
+        });
         Some(made)
     }
 }

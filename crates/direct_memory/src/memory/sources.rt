@@ -1,4 +1,5 @@
 ghost use Rattle.std.specs.Prelude.{◌≡◌, ℕ, ◌≤◌, length, if◌then◌else◌, Some, None, MatchOption, nat_lt, slice_index_or};
+ghost use Rattle.arrayvec.specs.ArrayVec.{array_vec_len};
 ghost use Rattle.device.specs.Calls.{has_word, replaced};
 ghost use Rattle.device.specs.Meaning.{Sound, no_source, source_size};
 ghost use Rattle.direct_memory.specs.Held.{held};
@@ -13,7 +14,7 @@ impl Memory {
     pub fn source_count(&self) -> usize
         ensures { result ≡ length (held self.now).sources }
     {
-        self.numbers.source_count
+        self.numbers.sources.len()
     }
 
     /// The bytes of a source, or nothing where there is no such source.
@@ -22,20 +23,15 @@ impl Memory {
         ensures sound { Sound (held self.now).sources }
     {
         have_32_bits(&self.words);
-        if source >= self.numbers.source_count {
-            return None;
-        }
-        Some(u64::from(self.numbers.sources[source].size))
+        let place = self.numbers.sources.get(source)?;
+        Some(u64::from(place.size))
     }
 
     /// Where the words of a source lie.
     pub(super) fn source_region(&self, source: usize) -> Option<Region>
-        ensures { MatchOption result (self.now.numbers.source_count ≤ source) (SourceLies self.now source) }
+        ensures { MatchOption result (array_vec_len self.now.numbers.sources ≤ source) (SourceLies self.now source) }
     {
-        if source >= self.numbers.source_count {
-            return None;
-        }
-        let place = self.numbers.sources[source];
+        let place = self.numbers.sources.get(source)?;
         Some(Region {
             start: place.start,
             size: place.size.div_ceil(4) as usize,
@@ -46,12 +42,8 @@ impl Memory {
     pub fn source(&self, source: usize) -> Option<&[u32]>
         ensures { option_map (λ x. x.now) result ≡ (if nat_lt source (length (held self.now).sources) then Some (slice_index_or (held self.now).sources source no_source).words else None) }
     {
-        let Some(region) = self.source_region(source) else {
-            return None;
-        };
-        let start = region.start;
-        let end = start + region.size;
-        Some(&self.words[start..end])
+        let region = self.source_region(source)?;
+        Some(region.of(&self.words))
     }
 
     /// Writes one word of a source, or says that there is none.

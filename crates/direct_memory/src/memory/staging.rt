@@ -1,13 +1,15 @@
-ghost use Rattle.std.specs.Prelude.{◌≡◌, ℕ, ◌<◌, ◌≤◌, true, false, cond, length, Some, None, MatchOption};
-ghost use Rattle.device.specs.Calls.{block_in, can_fill, can_open, emptied, extended, named, written};
+ghost use Rattle.std.specs.Prelude.{◌≡◌, ℕ, ◌%◌, ◌<◌, ◌≤◌, length, MatchOption};
+ghost use Rattle.device.specs.Calls.{emptied};
+ghost use Rattle.device.specs.Uses.{use_from};
+ghost use Rattle.direct_memory.specs.Layouts.{end_of};
 ghost use Rattle.direct_memory.specs.Held.{held, shape};
 ghost use Rattle.direct_memory.specs.Lies.{BlockLies, begins_at, book_word};
 ghost use Rattle.direct_memory.specs.Views.{books_at};
 
 use super::Memory;
-use crate::layout::use_from;
-use crate::words::{Region, write, zero};
-use device::buffers::{BufferUses, StagingBlock};
+use crate::layout::BlockBook;
+use crate::words::Region;
+use device::buffers::StagingBlock;
 
 impl Memory {
     /// How many staging blocks there are.
@@ -31,12 +33,13 @@ impl Memory {
         self.numbers.staging_start + (self.numbers.staging_size / 4) as usize
     }
 
-    /// The bookkeeping word of a block.
-    pub(super) fn book(&self, number: usize) -> u32
+    /// What the bookkeeping word of a block says.
+    pub(super) fn book(&self, number: usize) -> BlockBook
         requires { number < self.now.numbers.blocks }
-        ensures { result ≡ book_word self.now number }
+        ensures end { result.end ≡ end_of (book_word self.now number) }
+        ensures state { result.state ≡ use_from (book_word self.now number % 16) }
     {
-        self.words[self.books_start() + number]
+        BlockBook::from(self.words[self.books_start() + number])
     }
 
     /// The byte of staging at which a block begins: the end of the one before it.
@@ -47,7 +50,7 @@ impl Memory {
         if number == 0 {
             return 0;
         }
-        self.book(number - 1) / 16 * 16
+        self.book(number - 1).end
     }
 
     /// Where a block lies, or nothing where there is no such block.
@@ -59,7 +62,7 @@ impl Memory {
             return None;
         }
         let from = self.block_start(number);
-        let end = self.book(number) / 16 * 16;
+        let end = self.book(number).end;
         Some(Region {
             start: self.numbers.staging_start + (from / 4) as usize,
             size: ((end - from) / 4) as usize,
