@@ -7,11 +7,11 @@ use Rattle.direct_memory.proofs.entries.run_entries.Goals as goal
 pub run_entry-requires : goal.run_entry-requires
 run_entry-requires c =
     let ok = ap (all_inside (length c.args.window.now) (length c.args.destination.now)) (ap (map entry_from) c.as_chunks.ensures.front ∙ entries_chunks c.args.entries.now (length c.args.entries.now / 4)) ∙ c.requires in
-    place_fits c.args.first_instances c.args.window.now c.as_chunks.result.0.now c.loop-words.words-index _ c.args.destination.now c.loop-words.destination c.from_words.result c.from_words.ensures c.loop-words-test.true c.loop-words.invariant ok
+    place_fits c.args.first_instances c.args.window.now c.as_chunks.result.0.now c.loop-words.words-index _ c.args.destination.now c.loop-words.destination c.from.result c.from.ensures c.loop-words-test.true c.loop-words.invariant ok
 
 pub loop-words-preserved : goal.loop-words-preserved
 loop-words-preserved c =
-    run_more c.args.first_instances c.args.window.now c.as_chunks.result.0.now c.loop-words.words-index _ c.args.destination.now c.loop-words.destination c.from_words.result c.from_words.ensures c.loop-words-test.true c.loop-words.invariant c.run_entry.new.destination c.run_entry.ensures
+    run_more c.args.first_instances c.args.window.now c.as_chunks.result.0.now c.loop-words.words-index _ c.args.destination.now c.loop-words.destination c.from.result c.from.ensures c.loop-words-test.true c.loop-words.invariant c.run_entry.new.destination c.run_entry.ensures
 
 pub returns : goal.returns
 returns c =
