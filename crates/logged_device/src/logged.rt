@@ -11,7 +11,7 @@ pub mod log;
 pub struct Logged<E> {
     below: E,
     log: ArrayVec<Command, 1024>,
-    /// How many commands were passed on.
+    /// How many commands were passed on, kept or not.
     count: u64,
     ghost kept: { array_vec_len log ≡ min count 1024 },
 }
