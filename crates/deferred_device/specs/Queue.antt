@@ -1,5 +1,5 @@
 -- Commands that are held back over a device.
-use Rattle.std.specs.Prelude.{ℕ, cond, List, [], ◌∷◌, ◌++◌, length, take, ◌==◌}
+use Rattle.std.specs.Prelude.{cond, List, [], ◌∷◌, ◌++◌, length, ◌==◌}
 use Rattle.device.specs.declared.commands.Command.{Command}
 use Rattle.device.specs.Meaning.{Meaning}
 use Rattle.device.specs.Plays.{play_all}
@@ -9,8 +9,8 @@ pub record Queue : Type 0 where
   pub held : List Command
   pub below : Meaning
 
-abbrev pub queue : List Command → ℕ → Meaning → Queue
-queue cs n m = record { held = take n cs; below = m }
+abbrev pub queue : List Command → Meaning → Queue
+queue cs m = record { held = cs; below = m }
 
 -- a deferred device is what the device below is once all that is held was played
 abbrev pub meant : Queue → Meaning

@@ -1,5 +1,7 @@
-ghost use Rattle.std.specs.Prelude.{◌≡◌, ◌<◌, length};
+ghost use Rattle.std.specs.Prelude.{◌<◌};
+ghost use Rattle.arrayvec.specs.ArrayVec.{array_vec_len};
 
+use arrayvec::ArrayVec;
 use device::commands::Command;
 
 pub mod encode;
@@ -10,8 +12,6 @@ pub mod queue;
 /// and gives the encoder below back.
 pub struct Deferred<E> {
     below: E,
-    held: [Command; 256],
-    count: usize,
-    ghost few: { count < 256 },
-    ghost room: { length held ≡ 256 },
+    held: ArrayVec<Command, 256>,
+    ghost few: { array_vec_len held < 256 },
 }

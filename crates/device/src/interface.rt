@@ -7,6 +7,8 @@ use super::buffers::{PoolKind, StagingBlock};
 use super::commands::{BufferBarrier, BufferCopy, Command, ValidationDispatch};
 use super::properties::Properties;
 
+// Every device has these calls with these parameters: what impls repeat is the interface. `store` answers as a set's
+// `insert` does, and no more is to be told.
 /// The memory of a graphics device, by what it means: docs/DEVICE.md explains every sentence.
 pub trait Device {
     /// What the device is: what it holds, whether a pass is open, and whether its error mark is raised.

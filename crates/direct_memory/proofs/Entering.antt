@@ -1,7 +1,8 @@
 -- Entries in words, handled one after another.
-use Rattle.std.proofs.Common.{◌≡◌, ℕ, zero, suc, ◌+◌, ◌<◌, ◌≤◌, Bool, true, ◌&&◌, List, [], ◌∷◌, ◌++◌, map, length, get_or, take, drop, refl, ap, ◌∙◌, sym, le_of_suc-le-suc, not-suc-le-zero, arith}
+use Rattle.std.proofs.Common.{◌≡◌, ℕ, zero, suc, ◌+◌, ◌<◌, ◌≤◌, Bool, true, ◌&&◌, List, [], ◌∷◌, ◌++◌, map, length, get_or, take, drop, refl, ap, ◌∙◌, sym, arith}
 use Rattle.std.proofs.lemmas.List.Edits.{sets}
 use Rattle.std.specs.List.{list_all}
+use Rattle.std.proofs.lemmas.List.Sums.{AllPass-from_list_all}
 use Rattle.std.specs.Simd.{first_chunks}
 use Rattle.std.proofs.lemmas.List.{take_more, get_or-take, map-append}
 use Rattle.std.proofs.lemmas.Bool.{and_parts, leb-true}
@@ -23,9 +24,7 @@ all_inside_map w n [] = refl
 all_inside_map w n (c ∷ cs) = ap (λ b. inside w n (entry_from c) && b) (all_inside_map w n cs)
 
 inside_at : (w n : ℕ) (cs : List (List ℕ)) (i : ℕ) (d : List ℕ) → i < length cs → all_inside w n (map entry_from cs) ≡ true → inside w n (entry_from (get_or cs i d)) ≡ true
-inside_at w n [] i d h ok = absurd (not-suc-le-zero h)
-inside_at w n (c ∷ cs) zero d h ok = (and_parts (inside w n (entry_from c)) (all_inside w n (map entry_from cs)) ok).0
-inside_at w n (c ∷ cs) (suc i) d h ok = inside_at w n cs i d (le_of_suc-le-suc h) (and_parts (inside w n (entry_from c)) (all_inside w n (map entry_from cs)) ok).1
+inside_at w n cs i d h ok = AllPass-from_list_all (λ c. inside w n (entry_from c)) cs (all_inside_map w n cs ∙ ok) i d h
 
 ran_push : (allowed : Bool) (w : List ℕ) (xs : List MetadataEntry) (e : MetadataEntry) (ws : List ℕ) → ran allowed w (xs ++ e ∷ []) ws ≡ sets (ran allowed w xs ws) (place_at e) (drawn allowed w e)
 ran_push allowed w [] e ws = refl

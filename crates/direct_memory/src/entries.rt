@@ -24,6 +24,7 @@ fn is_inside(words: &[u32; 4], window: usize, destination: usize) -> bool
     let entry = MetadataEntry::from(*words).unpack();
     let read = (entry.src_offset + get_src_stride_of_indirect_args(entry.family)) / 4;
     let written = (entry.dst_offset + get_dst_stride_of_indirect_args(entry.family)) / 4;
+    // Offsets have 64 bits, and Rust has no `From` between these and a usize.
     read <= window as u64 && written <= destination as u64
 }
 
@@ -45,6 +46,7 @@ fn run_entry(destination: &mut [u32], entry: &MetadataEntry, window: &[u32], fir
     let Some(arguments) = entry.validate(window, first_instances) else {
         return;
     };
+    // A place inside the destination is a usize, to which Rust has no `From`.
     let place = (entry.unpack().dst_offset / 4) as usize;
     write(destination, place, arguments.words());
 }

@@ -22,7 +22,7 @@ pub struct PoolSlot {
 #[derive(Clone, Copy, PartialEq, Eq)]
 pub(crate) struct BlockBook {
     /// The byte of staging at which the block ends.
-    pub(crate) end: u32,
+    pub(crate) end: usize,
     pub(crate) state: BufferUses,
 }
 
@@ -32,7 +32,8 @@ impl From<u32> for BlockBook {
 
     fn from(word: u32) -> BlockBook {
         BlockBook {
-            end: word / 16 * 16,
+            // Rust has no `From` of 32 bits into a usize.
+            end: (word / 16 * 16) as usize,
             state: BufferUses::from(word % 16),
         }
     }

@@ -15,10 +15,10 @@ pub struct Numbers {
     /// The first word of staging.
     pub(crate) staging_start: usize,
     /// The bytes of staging.
-    pub(crate) staging_size: u64,
-    /// How many blocks there are, and how many bytes they take.
+    pub(crate) staging_size: usize,
+    /// How many blocks there are, and how many bytes they take. A block has its bookkeeping in the words, and no list here.
     pub(crate) blocks: usize,
-    pub(crate) used: u64,
+    pub(crate) used: usize,
     /// The pool buffers in the order of making.
     pub(crate) pool: ArrayVec<PoolSlot, 512>,
     /// How many pool buffers there can be in all.

@@ -9,6 +9,7 @@ pub struct Region {
     pub size: usize,
 }
 
+// That a region lies inside is said of the words that it is used with, which no type of its own could know.
 impl Region {
     /// One past the last word.
     pub(crate) fn end(self) -> usize

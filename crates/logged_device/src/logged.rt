@@ -1,5 +1,7 @@
-ghost use Rattle.std.specs.Prelude.{◌≡◌, length};
+ghost use Rattle.std.specs.Prelude.{◌≡◌, min};
+ghost use Rattle.arrayvec.specs.ArrayVec.{array_vec_len};
 
+use arrayvec::ArrayVec;
 use device::commands::Command;
 
 pub mod encode;
@@ -8,8 +10,8 @@ pub mod log;
 /// Passes every command on to the encoder below at once, and keeps the first 1,024 of them.
 pub struct Logged<E> {
     below: E,
-    log: [Command; 1024],
-    /// How many commands were passed on.
+    log: ArrayVec<Command, 1024>,
+    /// How many commands were passed on, kept or not.
     count: u64,
-    ghost room: { length log ≡ 1024 },
+    ghost kept: { array_vec_len log ≡ min count 1024 },
 }

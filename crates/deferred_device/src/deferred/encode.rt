@@ -1,3 +1,5 @@
+#![tactic(auto, using(crate::proofs::Queueing::same_answers))]
+
 ghost use Rattle.deferred_device.specs.Queue.{meant, queue};
 ghost use Rattle.device.specs.Meaning.{Meaning};
 
@@ -7,9 +9,10 @@ use device::commands::{BufferBarrier, BufferCopy, Command, ValidationDispatch};
 use device::interface::{Device, Encoder};
 use device::properties::Properties;
 
-// Questions go to the device below: no command changes their answers. All other calls play what is held first.
+// Questions go to the device below: no command changes their answers. All other calls play what is held first. Each is
+// passed on by hand, as in the logged device: only a macro could write such an impl, and the gate allows none.
 impl<E: Encoder> Device for Deferred<E> {
-    ghost means = { λ s. meant (queue s.held s.count (E.Device.means s.below)) };
+    ghost means = { λ s. meant (queue s.held.items (E.Device.means s.below)) };
 
     fn source_count(&self) -> usize {
         self.below.source_count()

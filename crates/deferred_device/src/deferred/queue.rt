@@ -1,68 +1,60 @@
-ghost use Rattle.std.specs.Prelude.{◌≡◌, ℕ, ◌+◌, ◌<◌, [], length};
+ghost use Rattle.std.specs.Prelude.{◌≡◌, [], length};
 ghost use Rattle.deferred_device.specs.Queue.{Queue, flushed, meant, queue, queued};
 ghost use Rattle.device.specs.Meaning.{Meaning, New};
 ghost use Rattle.device.specs.Plays.{played};
 
 use super::Deferred;
+use arrayvec::ArrayVec;
 use device::commands::Command;
 use device::interface::Encoder;
 use device::play::play_all;
 
-/// How many commands are played together.
-const MOST: usize = 256;
-
 impl<E: Encoder> Deferred<E> {
     /// Over `below`, with nothing held.
     pub fn new(below: E) -> Deferred<E>
-        ensures value { queue result.held result.count (E.Device.means result.below) ≡ record { held = []; below = E.Device.means below } }
-        ensures fresh { New (E.Device.means below) → New (meant (queue result.held result.count (E.Device.means result.below))) }
+        ensures value { queue result.held.items (E.Device.means result.below) ≡ record { held = []; below = E.Device.means below } }
+        ensures fresh { New (E.Device.means below) → New (meant (queue result.held.items (E.Device.means result.below))) }
     {
         Deferred {
             below,
-            held: [Command::Begin; 256],
-            count: 0,
+            held: ArrayVec::new(),
         }
     }
 
     /// How many commands are held.
     pub fn held(&self) -> usize
-        ensures { result ≡ length (queue self.now.held self.now.count (E.Device.means self.now.below)).held }
+        ensures { result ≡ length (queue self.now.held.items (E.Device.means self.now.below)).held }
     {
-        self.count
+        self.held.len()
     }
 
     /// Plays what is held, and gives the encoder below back.
     pub fn finish(mut self) -> E
-        ensures { E.Device.means result ≡ meant (queue self.held self.count (E.Device.means self.below)) }
+        ensures { E.Device.means result ≡ meant (queue self.held.items (E.Device.means self.below)) }
     {
         self.flush();
-        let Deferred {
-            below,
-            held: _,
-            count: _,
-        } = self;
+        let Deferred { below, held: _ } = self;
         below
     }
 
     /// Plays what is held.
     pub(super) fn flush(&mut self)
-        ensures { queue self.new.held self.new.count (E.Device.means self.new.below) ≡ flushed (queue self.old.held self.old.count (E.Device.means self.old.below)) }
+        ensures { queue self.new.held.items (E.Device.means self.new.below) ≡ flushed (queue self.old.held.items (E.Device.means self.old.below)) }
     {
-        play_all(&mut self.below, &self.held[..self.count]);
-        self.count = 0;
+        play_all(&mut self.below, &self.held);
+        self.held.clear();
     }
 
     /// Holds one more command, and plays them all where they are 256.
+    #[tactic(auto, using(crate::proofs::Queueing::play_push))]
     pub(super) fn enqueue(&mut self, command: Command)
-        ensures queue { queue self.new.held self.new.count (E.Device.means self.new.below) ≡ queued command (queue self.old.held self.old.count (E.Device.means self.old.below)) }
-        ensures after { meant (queue self.new.held self.new.count (E.Device.means self.new.below)) ≡ played command (meant (queue self.old.held self.old.count (E.Device.means self.old.below))) }
+        ensures queue { queue self.new.held.items (E.Device.means self.new.below) ≡ queued command (queue self.old.held.items (E.Device.means self.old.below)) }
+        ensures after { meant (queue self.new.held.items (E.Device.means self.new.below)) ≡ played command (meant (queue self.old.held.items (E.Device.means self.old.below))) }
     {
-        self.held[self.count] = command;
-        if self.count + 1 == MOST {
+        self.held.push(command);
+        if self.held.is_full() {
             play_all(&mut self.below, &self.held);
-            self.count = 0;
-        } else {
-            self.count += 1;
+            self.held.clear();
         }
     }
 }

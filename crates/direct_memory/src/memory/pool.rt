@@ -21,7 +21,7 @@ impl Memory {
     fn pool_start(&self) -> usize
         ensures { result ≡ pool_at (shape self.now.numbers) }
     {
-        let size = self.numbers.staging_size as usize;
+        let size = self.numbers.staging_size;
         self.numbers.staging_start + size / 4 + size / 16
     }
 
@@ -31,6 +31,7 @@ impl Memory {
         ensures value { result ≡ record { start = pool_at (shape self.now.numbers) + number * buffer_words (shape self.now.numbers); size = buffer_words (shape self.now.numbers) } }
         ensures room { Inside result self.now.words.items }
     {
+        // Rust has no `From` of 64 bits into a usize.
         let size = (self.numbers.properties.buffer_size / 4) as usize;
         Region {
             start: self.pool_start() + number * size,

@@ -32,6 +32,7 @@ impl Memory {
         ensures { MatchOption result (array_vec_len self.now.numbers.sources ≤ source) (SourceLies self.now source) }
     {
         let place = self.numbers.sources.get(source)?;
+        // Rust has no `From` of 32 bits into a usize.
         Some(Region {
             start: place.start,
             size: place.size.div_ceil(4) as usize,
@@ -46,7 +47,7 @@ impl Memory {
         Some(region.of(&self.words))
     }
 
-    /// Writes one word of a source, or says that there is none.
+    /// Writes one word of a source, or says that there is none, as the device interface has it.
     pub fn store(&mut self, source: usize, word: usize, value: u32) -> bool
         ensures answer { result ≡ has_word source word (held self.old) }
         ensures after { held self.new ≡ (if has_word source word (held self.old) then replaced source word value (held self.old) else held self.old) }

@@ -23,14 +23,15 @@ impl Memory {
     pub fn free_staging(&self) -> u64
         ensures { result ≡ (held self.now).staging.free }
     {
-        self.numbers.staging_size - self.numbers.used
+        // Rust has no `From` of a usize into 64 bits.
+        (self.numbers.staging_size - self.numbers.used) as u64
     }
 
     /// Where the bookkeeping of blocks begins.
     pub(super) fn books_start(&self) -> usize
         ensures { result ≡ books_at (shape self.now.numbers) }
     {
-        self.numbers.staging_start + (self.numbers.staging_size / 4) as usize
+        self.numbers.staging_start + self.numbers.staging_size / 4
     }
 
     /// What the bookkeeping word of a block says.
@@ -43,7 +44,7 @@ impl Memory {
     }
 
     /// The byte of staging at which a block begins: the end of the one before it.
-    fn block_start(&self, number: usize) -> u32
+    fn block_start(&self, number: usize) -> usize
         requires { number < self.now.numbers.blocks }
         ensures { result ≡ begins_at self.now number }
     {
@@ -64,8 +65,8 @@ impl Memory {
         let from = self.block_start(number);
         let end = self.book(number).end;
         Some(Region {
-            start: self.numbers.staging_start + (from / 4) as usize,
-            size: ((end - from) / 4) as usize,
+            start: self.numbers.staging_start + from / 4,
+            size: (end - from) / 4,
         })
     }
 

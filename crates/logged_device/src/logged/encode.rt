@@ -6,6 +6,8 @@ use device::commands::{BufferBarrier, BufferCopy, Command, ValidationDispatch};
 use device::interface::{Device, Encoder};
 use device::properties::Properties;
 
+// All but commands goes to the device below as it is. Each call is passed on by hand, as in the deferred device: only a
+// macro could write such an impl, and the gate allows none.
 impl<E: Encoder> Device for Logged<E> {
     ghost means = { λ s. E.Device.means s.below };
 

@@ -4,37 +4,34 @@ ghost use Rattle.device.specs.Plays.{played};
 ghost use Rattle.logged_device.specs.Log.{Log, log, logged};
 
 use super::Logged;
+use arrayvec::ArrayVec;
 use device::commands::Command;
 use device::interface::Encoder;
 use device::play::play;
 
-/// How many commands are kept.
-const KEPT: u64 = 1024;
-
 impl<E: Encoder> Logged<E> {
     /// Over `below`, with an empty log.
     pub fn new(below: E) -> Logged<E>
-        ensures log { log result.log result.count ≡ record { kept = []; count = 0 } }
+        ensures log { log result.log.items result.count ≡ record { kept = []; count = 0 } }
         ensures below { E.Device.means result.below ≡ E.Device.means below }
     {
         Logged {
             below,
-            log: [Command::Begin; 1024],
+            log: ArrayVec::new(),
             count: 0,
         }
     }
 
     /// The commands that were kept, the oldest first.
     pub fn commands(&self) -> &[Command]
-        ensures { result.now ≡ (log self.now.log self.now.count).kept }
+        ensures { result.now ≡ (log self.now.log.items self.now.count).kept }
     {
-        let kept = self.count.min(KEPT) as usize;
-        &self.log[..kept]
+        &self.log
     }
 
     /// How many commands were passed on, whether they were kept or not; at most 18,446,744,073,709,551,615.
     pub fn count(&self) -> u64
-        ensures { result ≡ (log self.now.log self.now.count).count }
+        ensures { result ≡ (log self.now.log.items self.now.count).count }
     {
         self.count
     }
@@ -53,20 +50,17 @@ impl<E: Encoder> Logged<E> {
 
     /// Notes a command.
     fn note(&mut self, command: Command)
-        ensures log { log self.new.log self.new.count ≡ logged command (log self.old.log self.old.count) }
+        ensures log { log self.new.log.items self.new.count ≡ logged command (log self.old.log.items self.old.count) }
         ensures below { self.new.below ≡ self.old.below }
     {
-        if self.count < KEPT {
-            self.log[self.count as usize] = command;
-            self.count += 1;
-        } else {
-            self.count = self.count.saturating_add(1);
-        }
+        // Where the log is full, the command is only counted.
+        let _ = self.log.try_push(command);
+        self.count = self.count.saturating_add(1);
     }
 
     /// Notes a command and passes it on.
     pub(super) fn pass(&mut self, command: Command)
-        ensures log { log self.new.log self.new.count ≡ logged command (log self.old.log self.old.count) }
+        ensures log { log self.new.log.items self.new.count ≡ logged command (log self.old.log.items self.old.count) }
         ensures after { E.Device.means self.new.below ≡ played command (E.Device.means self.old.below) }
     {
         self.note(command);

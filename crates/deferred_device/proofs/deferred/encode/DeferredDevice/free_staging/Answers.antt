@@ -1,9 +1,0 @@
-use Rattle.std.proofs.Common.{take, sym, ap, ◌∙◌}
-use Rattle.device.specs.Laws.{Answers}
-use Rattle.device.proofs.Playing.{leaves_all}
-use Rattle.deferred_device.proofs.deferred.encode.DeferredDevice.free_staging.Goals as goal
-
-pub returns : goal.returns
-returns g c =
-    let s = c.args.self.now in
-    c.free_staging.ensures ∙ sym (ap (λ (a : Answers). a.free) (leaves_all (take s.count s.held) (g.E.Device.means s.below)).answered)
