@@ -2,6 +2,7 @@ ghost use Rattle.std.specs.Prelude.{◌≡◌, ℕ, ◌+◌, ◌^◌, ◌<◌};
 ghost use Rattle.places.specs.Counts.{Counts, counts, counted};
 
 use super::supply::Supply;
+use command::refusal::Refusal;
 
 /// A supply that only counts its buffers.
 #[derive(Clone, Copy)]
@@ -45,11 +46,14 @@ impl Supply for Counted {
         self.held + self.left
     }
 
-    fn ensure(&mut self, index: usize) -> bool {
+    fn ensure(&mut self, index: usize) -> Result<(), Refusal> {
         if index == self.held && self.left > 0 {
             self.held += 1;
             self.left -= 1;
         }
-        index < self.held
+        if index >= self.held {
+            return Err(Refusal::NoBuffer);
+        }
+        Ok(())
     }
 }

@@ -57,8 +57,8 @@ pub fn get_subrange_impl<S: Supply>(
     ensures apart { LaidApart }
 {
     let place = next_place(*current_entry, size, buffer_size).ok_or(Refusal::NoBuffer)?;
-    if !fits_current(*current_entry, size, buffer_size) && !supply.ensure(place.index) {
-        return Err(Refusal::NoBuffer);
+    if !fits_current(*current_entry, size, buffer_size) {
+        supply.ensure(place.index)?;
     }
     *current_entry = Some(CurrentEntry {
         index: place.index,

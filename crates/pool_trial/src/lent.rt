@@ -3,6 +3,7 @@ ghost use Rattle.pool_trial.specs.Lending.{Lending, lend, held_of, more_of, lend
 
 use super::maker::Maker;
 use super::tables::Tables;
+use command::refusal::Refusal;
 use device::buffers::PoolKind;
 use places::supply::Supply;
 
@@ -33,19 +34,20 @@ impl<D: Maker> Supply for Lent<'_, D> {
     }
 
     /// A new member is the top of the free stack, or else one that the device makes.
-    fn ensure(&mut self, index: usize) -> bool {
+    fn ensure(&mut self, index: usize) -> Result<(), Refusal> {
         let count = self.tables.members.len();
-        if index != count || count == 256 {
-            return index < count;
+        if index < count {
+            return Ok(());
+        }
+        if index > count || count == 256 {
+            return Err(Refusal::NoBuffer);
         }
         // no `or_else`, whose closure would change the device: a proof knows nothing of the device after it
         let found = match self.tables.free.pop() {
             None => self.device.make(self.kind),
             top => top,
         };
-        if let Some(buffer) = found {
-            self.tables.members.push(buffer);
-        }
-        found.is_some()
+        self.tables.members.push(found.ok_or(Refusal::NoBuffer)?);
+        Ok(())
     }
 }

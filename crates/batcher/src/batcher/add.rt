@@ -46,9 +46,7 @@ impl DrawBatcher {
         // Judged whole, then the supply is asked, and only then anything is written.
         let chosen = self.judge(tables, terms, request)?;
         if let Some(index) = chosen.asks {
-            if !supply.ensure(index) {
-                return Err(Refusal::NoBuffer);
-            }
+            supply.ensure(index)?;
         }
         tables.draws[self.draws] = chosen.draw;
         tables.batches[chosen.draw.batch] = chosen.batch;
