@@ -1,24 +1,21 @@
 -- One more line of each sort.
-use Rattle.std.proofs.Common.{◌≡◌, ℕ, ◌+◌, ◌<◌, ◌≤◌, List, ◌++◌, length, get_or, drop, sym, ap, ◌∙◌, append_assoc, append-nil}
-use Rattle.std.proofs.lemmas.List.{drop_more, drop_all}
-use Rattle.batcher.specs.Records.{no_batch, no_draw}
+use Rattle.std.proofs.Common.{Bor, [], ◌∷◌, map, ◌≡◌, ℕ, ◌+◌, ◌<◌, ◌≤◌, List, ◌++◌, length, get_or, drop, sym, ap, ◌∙◌, append_assoc, append-nil}
+use Rattle.std.proofs.lemmas.List.{drop_more, drop_all, map_push}
+use Rattle.std.proofs.lemmas.List.Concat.{flat_map-append}
+use Rattle.std.specs.List.{flat_map}
+use Rattle.batcher.specs.Records.{no_batch}
 use Rattle.batcher.specs.declared.records.DrawIndirectValidationBatch.{DrawIndirectValidationBatch}
 use Rattle.batcher.specs.declared.records.IndirectDraw.{IndirectDraw}
 use Rattle.batcher.specs.Judged.{Terms}
 use Rattle.page.specs.declared.line.DrawLine.{DrawLine}
 use Rattle.sheet.specs.Frames.{Recording, answer_of, recorded, recorded_all}
-use Rattle.sheet.specs.Printed.{answer_line, answer_lines, batch_line, batch_lines, entry_line_of, entry_lines}
+use Rattle.sheet.specs.Printed.{answer_line, answer_lines, batch_line, batch_lines, entry_lines}
 
-module _ (pre : List ℕ) (k : ℕ) (ds : List IndirectDraw) (i : ℕ) where
-  pub entries_more : i < length ds → pre ++ entry_lines k (drop i ds) ≡ (pre ++ entry_line_of k (get_or ds i no_draw)) ++ entry_lines k (drop (i + 1) ds)
-  unfolding entry_lines
-  entries_more h =
-      ap (λ (l : List IndirectDraw). pre ++ entry_lines k l) (drop_more ds i no_draw h)
-      ∙ sym (append_assoc pre (entry_line_of k (get_or ds i no_draw)) (entry_lines k (drop (i + 1) ds)))
-
-  pub entries_all : length ds ≤ i → pre ++ entry_lines k (drop i ds) ≡ pre
-  unfolding entry_lines
-  entries_all h = ap (λ (l : List IndirectDraw). pre ++ entry_lines k l) (drop_all i ds h) ∙ append-nil pre
+-- the lines of what was printed so far and of one more
+pub lines_push : {X : Type 0} (line : X → List ℕ) (pre : List ℕ) (xs : List (Bor X)) (x : Bor X) → (pre ++ flat_map line (map (λ y. y.now) xs)) ++ line x.now ≡ pre ++ flat_map line (map (λ y. y.now) (xs ++ (x ∷ [])))
+lines_push line pre xs x =
+    append_assoc pre (flat_map line (map (λ y. y.now) xs)) (line x.now)
+    ∙ ap (λ l. pre ++ l) (sym (ap (flat_map line) (map_push (λ y. y.now) xs x) ∙ flat_map-append line (map (λ y. y.now) xs) (x.now ∷ []) ∙ ap (λ l. flat_map line (map (λ y. y.now) xs) ++ l) (append-nil (line x.now))))
 
 module _ (pre : List ℕ) (ds : List IndirectDraw) (bs : List DrawIndirectValidationBatch) (i : ℕ) where
   pub batches_more : i < length bs → pre ++ batch_lines i ds (drop i bs) ≡ ((pre ++ batch_line (get_or bs i no_batch)) ++ entry_lines i ds) ++ batch_lines (i + 1) ds (drop (i + 1) bs)

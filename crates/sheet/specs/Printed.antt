@@ -1,5 +1,6 @@
 -- What is printed of a sheet.
-use Rattle.std.specs.Prelude.{ℕ, ◌+◌, cond, List, [], ◌∷◌, ◌++◌, take, Ok, Err, codes, decimal, Result, ◌==◌}
+use Rattle.std.specs.Prelude.{ℕ, ◌+◌, cond, List, [], ◌∷◌, ◌++◌, filter, take, Ok, Err, codes, decimal, Result, ◌==◌}
+use Rattle.std.specs.List.{flat_map}
 use Rattle.command.specs.Family.{src_stride, dst_stride}
 use Rattle.command.specs.Lawful.{lawful}
 use Rattle.command.specs.Refusals.{number_of}
@@ -14,6 +15,8 @@ use Rattle.page.specs.Sheets.{Parsed, Sheet, bad, good, read_page}
 use Rattle.page.specs.declared.line.DrawLine.{DrawLine}
 use Rattle.plan.specs.Planned.{batches_after, plan_answer}
 use Rattle.plan.specs.declared.frame.FramePlan.{FramePlan}
+use Rattle.sheet.specs.declared.print.AnswerLine.{AnswerLine}
+use Rattle.sheet.specs.declared.print.AnswerLine.TheVariants.{Bad, Batch, Entry, Place, Refused}
 use Rattle.sheet.specs.Frames.{Recording, answer_of, fresh, recorded, recorded_all}
 
 abbrev pub newline : List ℕ
@@ -22,44 +25,46 @@ newline = 10 ∷ []
 abbrev pub comma : List ℕ
 comma = codes ","
 
+-- a place: its buffer or block, and the offset in it
+abbrev pub at_text : CurrentEntry → List ℕ
+at_text p = decimal p.index ++ (comma ++ decimal p.offset)
+
+-- a line without its newline; of a batch source, window, destination buffer, count, and the places of its staging and
+-- its metadata
+abbrev pub line_text : AnswerLine → List ℕ
+line_text (Bad n) = codes "bad=" ++ decimal n
+line_text (Refused r) = codes "refused=" ++ decimal (number_of r)
+line_text (Place p) = codes "place=" ++ at_text p
+line_text (Batch b) = codes "batch=" ++ (decimal b.key.source ++ (comma ++ (decimal b.key.window ++ (comma ++ (decimal b.key.destination ++ (comma ++ (decimal b.count ++ (comma ++ (at_text b.staging ++ (comma ++ at_text b.metadata))))))))))
+line_text (Entry e) = codes "entry=" ++ (decimal e.src_offset ++ (comma ++ (decimal e.dst_offset ++ (comma ++ (decimal e.vertex_or_index_limit ++ (comma ++ decimal e.instance_limit))))))
+
 abbrev pub bad_line : ℕ → List ℕ
-bad_line n = codes "bad=" ++ (decimal n ++ newline)
+bad_line n = line_text (Bad n) ++ newline
 
 abbrev pub refused_line : Refusal → List ℕ
-refused_line r = codes "refused=" ++ (decimal (number_of r) ++ newline)
+refused_line r = line_text (Refused r) ++ newline
 
--- buffer and offset of a draw, or why it was refused
+-- the place of a draw, or why it was refused
+abbrev pub line_of : Result CurrentEntry Refusal → AnswerLine
+line_of (Ok p) = Place p
+line_of (Err r) = Refused r
+
 abbrev pub answer_line : Result CurrentEntry Refusal → List ℕ
-answer_line (Ok p) = codes "place=" ++ (decimal p.index ++ (comma ++ (decimal p.offset ++ newline)))
-answer_line (Err r) = refused_line r
+answer_line r = line_text (line_of r) ++ newline
 
 unfoldable pub answer_lines : Terms → List ℕ → Recording → List DrawLine → List ℕ
 answer_lines t sources f [] = []
 answer_lines t sources f (d ∷ ds) = answer_line (answer_of t sources f d) ++ answer_lines t sources (recorded t sources f d) ds
 
--- source, window, destination buffer and count
-abbrev pub key_text : DrawIndirectValidationBatch → List ℕ
-key_text b = codes "batch=" ++ (decimal b.key.source ++ (comma ++ (decimal b.key.window ++ (comma ++ (decimal b.key.destination ++ (comma ++ decimal b.count))))))
-
--- staging block and offset, metadata buffer and offset
-abbrev pub places_text : DrawIndirectValidationBatch → List ℕ
-places_text b = comma ++ (decimal b.staging.index ++ (comma ++ (decimal b.staging.offset ++ (comma ++ (decimal b.metadata.index ++ (comma ++ (decimal b.metadata.offset ++ newline)))))))
-
 abbrev pub batch_line : DrawIndirectValidationBatch → List ℕ
-batch_line b = key_text b ++ places_text b
+batch_line b = line_text (Batch b) ++ newline
 
 abbrev pub entry_line : MetadataEntry → List ℕ
-entry_line e =
-    codes "entry=" ++ (decimal e.src_offset ++ (comma ++ (decimal e.dst_offset ++ (comma ++ (decimal e.vertex_or_index_limit ++ (comma ++ (decimal e.instance_limit ++ newline)))))))
-
--- the entry of a draw of batch k
-abbrev pub entry_line_of : ℕ → IndirectDraw → List ℕ
-entry_line_of k d = cond (d.batch == k) (entry_line d.entry) []
+entry_line e = line_text (Entry e) ++ newline
 
 -- the entries of batch k, in the order of their draws
 unfoldable pub entry_lines : ℕ → List IndirectDraw → List ℕ
-entry_lines k [] = []
-entry_lines k (d ∷ ds) = entry_line_of k d ++ entry_lines k ds
+entry_lines k ds = flat_map (λ d. entry_line d.entry) (filter (λ d. d.batch == k) ds)
 
 -- each batch with its entries, the first numbered k
 unfoldable pub batch_lines : ℕ → List IndirectDraw → List DrawIndirectValidationBatch → List ℕ

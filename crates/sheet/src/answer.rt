@@ -7,7 +7,7 @@ ghost use Rattle.sheet.specs.Printed.{answer_lines, frame_text, planned_text, pr
 ghost use Rattle.sheet.specs.View.{recording_of};
 
 use super::frame::Frame;
-use super::print::{put_answer, put_bad, put_batches, put_refused};
+use super::print::{AnswerLine, put_batches};
 use batcher::records::{DrawIndirectValidationBatch, IndirectDraw};
 use command::settings::Settings;
 use page::line::DrawLine;
@@ -30,7 +30,7 @@ fn put_draws(
 {
     for line in lines {
         let answer = frame.record(draws, batches, sources, line);
-        put_answer(out, &answer)?;
+        writeln!(out, "{}", AnswerLine::from(answer))?;
     }
     Ok(())
 }
@@ -52,7 +52,7 @@ fn put_plan(
             &draws[0..frame.batcher.draws()],
             &batches[0..frame.batcher.batches()],
         ),
-        Err(refusal) => put_refused(out, &refusal),
+        Err(refusal) => writeln!(out, "{}", AnswerLine::Refused(refusal)),
     }
 }
 
@@ -78,7 +78,7 @@ fn put_sheet(out: &mut String, page: &Page) -> Result<(), AllocError>
 {
     match Settings::new(page.align, page.binding) {
         Ok(settings) => put_frame(out, settings, &page.sources, &page.draws),
-        Err(refusal) => put_refused(out, &refusal),
+        Err(refusal) => writeln!(out, "{}", AnswerLine::Refused(refusal)),
     }
 }
 
@@ -89,7 +89,8 @@ fn answer_text(heap: Global, text: &[u8]) -> Result<String, AllocError>
     let mut out = String::new(heap);
     let written = match read(heap, text) {
         Ok(page) => put_sheet(&mut out, &page),
-        Err(ReadError::Bad(number)) => put_bad(&mut out, number),
+        Err(ReadError::Bad(number)) => writeln!(out, "{}", AnswerLine::Bad(number)),
+        Err(ReadError::TooLong) => writeln!(out, "{}", AnswerLine::Bad(0)),
         Err(ReadError::Memory) => Err(AllocError),
     };
     written?;

@@ -1,97 +1,97 @@
-ghost use Rattle.std.specs.Prelude.{◌≡◌, ℕ, ◌+◌, ◌++◌, string_bytes, OnOk};
-ghost use Rattle.sheet.specs.Printed.{answer_line, bad_line, batch_line, batch_lines, entry_line, entry_line_of, entry_lines, key_text, places_text, refused_line};
+ghost use Rattle.std.specs.Prelude.{◌≡◌, ◌++◌, string_bytes, OnOk, Some};
+ghost use Rattle.sheet.specs.Printed.{at_text, batch_lines, entry_lines, line_of, line_text};
 
-use batcher::records::{DrawIndirectValidationBatch, IndirectDraw};
+use batcher::records::{BatchKey, DrawIndirectValidationBatch, IndirectDraw};
 use command::refusal::Refusal;
 use entry::metadata::MetadataEntry;
 use places::current::CurrentEntry;
 use std::alloc::AllocError;
+use std::fmt;
 
-pub(crate) fn put_bad(out: &mut String, number: u64) -> Result<(), AllocError>
-    ensures { OnOk result (string_bytes out.new ≡ string_bytes out.old ++ bad_line number) }
-{
-    write!(out, "bad={number}\n")
+/// A place as it is printed: its buffer or block, and the offset in it.
+#[derive(Clone, Copy)]
+struct At(CurrentEntry);
+
+impl fmt::Display for At {
+    ghost output = { λ at. Some (at_text at.0) };
+
+    fn fmt<W: fmt::Write>(&self, f: &mut fmt::Formatter<W>) -> fmt::Result {
+        let CurrentEntry { index, offset } = self.0;
+        write!(f, "{index},{offset}")
+    }
 }
 
-pub(crate) fn put_refused(out: &mut String, refusal: &Refusal) -> Result<(), AllocError>
-    ensures { OnOk result (string_bytes out.new ≡ string_bytes out.old ++ refused_line refusal.now) }
-{
-    let number = refusal.number();
-    write!(out, "refused={number}\n")
+/// A line of what is printed.
+#[derive(Clone, Copy)]
+pub(crate) enum AnswerLine {
+    /// The first line of a text that is bad or missing, from 1, or 0 for a text that is too long.
+    Bad(u64),
+    /// Why a draw is refused, or the settings, or the plan.
+    Refused(Refusal),
+    /// Where an accepted draw goes.
+    Place(CurrentEntry),
+    /// A batch: its key, how many entries it has, and where its staging and its metadata stand.
+    Batch(DrawIndirectValidationBatch),
+    /// What is checked of a draw.
+    Entry(MetadataEntry),
 }
 
-pub(crate) fn put_answer(
-    out: &mut String,
-    answer: &Result<CurrentEntry, Refusal>,
-) -> Result<(), AllocError>
-    ensures { OnOk result (string_bytes out.new ≡ string_bytes out.old ++ answer_line answer.now) }
-{
-    match answer {
-        Ok(place) => {
-            let index = place.index;
-            let offset = place.offset;
-            write!(out, "place={index},{offset}\n")
+/// The line of a draw's answer.
+impl From<Result<CurrentEntry, Refusal>> for AnswerLine {
+    ghost from_gives = { λ answer line. line ≡ line_of answer };
+
+    fn from(answer: Result<CurrentEntry, Refusal>) -> AnswerLine {
+        match answer {
+            Ok(place) => AnswerLine::Place(place),
+            Err(refusal) => AnswerLine::Refused(refusal),
         }
-        Err(refusal) => put_refused(out, refusal),
     }
 }
 
-fn put_key(out: &mut String, batch: &DrawIndirectValidationBatch) -> Result<(), AllocError>
-    ensures { OnOk result (string_bytes out.new ≡ string_bytes out.old ++ key_text batch.now) }
-{
-    let source = batch.key.source;
-    let window = batch.key.window;
-    let destination = batch.key.destination;
-    let count = batch.count;
-    write!(out, "batch={source},{window},{destination},{count}")
-}
+/// The text of a line, without its newline.
+impl fmt::Display for AnswerLine {
+    ghost output = { λ line. Some (line_text line) };
 
-fn put_places(out: &mut String, batch: &DrawIndirectValidationBatch) -> Result<(), AllocError>
-    ensures { OnOk result (string_bytes out.new ≡ string_bytes out.old ++ places_text batch.now) }
-{
-    let block = batch.staging.index;
-    let block_offset = batch.staging.offset;
-    let buffer = batch.metadata.index;
-    let buffer_offset = batch.metadata.offset;
-    write!(out, ",{block},{block_offset},{buffer},{buffer_offset}\n")
-}
-
-fn put_batch(out: &mut String, batch: &DrawIndirectValidationBatch) -> Result<(), AllocError>
-    ensures { OnOk result (string_bytes out.new ≡ string_bytes out.old ++ batch_line batch.now) }
-{
-    put_key(out, batch)?;
-    put_places(out, batch)
-}
-
-fn put_entry(out: &mut String, entry: &MetadataEntry) -> Result<(), AllocError>
-    ensures { OnOk result (string_bytes out.new ≡ string_bytes out.old ++ entry_line entry.now) }
-{
-    let src_offset = entry.src_offset;
-    let dst_offset = entry.dst_offset;
-    let limit = entry.vertex_or_index_limit;
-    let instance_limit = entry.instance_limit;
-    write!(
-        out,
-        "entry={src_offset},{dst_offset},{limit},{instance_limit}\n"
-    )
-}
-
-// The entry of a draw, where the draw belongs to the batch of that number.
-fn put_entry_of(out: &mut String, number: usize, draw: &IndirectDraw) -> Result<(), AllocError>
-    ensures { OnOk result (string_bytes out.new ≡ string_bytes out.old ++ entry_line_of number draw.now) }
-{
-    if draw.batch != number {
-        return Ok(());
+    fn fmt<W: fmt::Write>(&self, f: &mut fmt::Formatter<W>) -> fmt::Result {
+        match self {
+            AnswerLine::Bad(number) => write!(f, "bad={number}"),
+            AnswerLine::Refused(refusal) => write!(f, "refused={}", refusal.number()),
+            AnswerLine::Place(place) => write!(f, "place={}", At(*place)),
+            AnswerLine::Batch(batch) => {
+                let BatchKey {
+                    source,
+                    window,
+                    destination,
+                } = batch.key;
+                let count = batch.count;
+                let (staging, metadata) = (At(batch.staging), At(batch.metadata));
+                write!(
+                    f,
+                    "batch={source},{window},{destination},{count},{staging},{metadata}"
+                )
+            }
+            AnswerLine::Entry(entry) => {
+                let MetadataEntry {
+                    src_offset,
+                    dst_offset,
+                    vertex_or_index_limit,
+                    instance_limit,
+                } = entry;
+                write!(
+                    f,
+                    "entry={src_offset},{dst_offset},{vertex_or_index_limit},{instance_limit}"
+                )
+            }
+        }
     }
-    put_entry(out, &draw.entry)
 }
 
 // The entries of one batch, in the order of their draws.
 fn put_entries(out: &mut String, number: usize, draws: &[IndirectDraw]) -> Result<(), AllocError>
     ensures { OnOk result (string_bytes out.new ≡ string_bytes out.old ++ entry_lines number draws.now) }
 {
-    for draw in draws {
-        put_entry_of(out, number, draw)?;
+    for draw in draws.iter().filter(|draw| draw.batch == number) {
+        writeln!(out, "{}", AnswerLine::Entry(draw.entry))?;
     }
     Ok(())
 }
@@ -104,7 +104,7 @@ pub(crate) fn put_batches(
     ensures { OnOk result (string_bytes out.new ≡ string_bytes out.old ++ batch_lines 0 draws.now batches.now) }
 {
     for (number, batch) in batches.iter().enumerate() {
-        put_batch(out, batch)?;
+        writeln!(out, "{}", AnswerLine::Batch(*batch))?;
         put_entries(out, number, draws)?;
     }
     Ok(())
