@@ -1,5 +1,5 @@
 -- The limits of all slots, by induction over slots and steps.
-use Rattle.std.proofs.Common.{◌≡◌, ℕ, zero, suc, ◌+◌, ◌<◌, ◌≤◌, true, ◌⊎◌, ◌↔◌, List, [], ◌∷◌, Some, None, Option, sym, refl, ap, ◌∙◌, subst, inl, inr, arith}
+use Rattle.std.proofs.Common.{◌≡◌, ℕ, zero, suc, ◌+◌, ◌<◌, ◌≤◌, true, ◌⊎◌, ◌↔◌, List, [], ◌∷◌, Some, None, Option, refl, ◌∙◌, inl, inr, arith}
 use Rattle.render.specs.declared.bindings.BufferRange.{BufferRange}
 use Rattle.render.specs.declared.bindings.IndexBinding.{IndexBinding}
 use Rattle.render.specs.declared.bindings.VertexSlot.{VertexSlot}
@@ -22,10 +22,10 @@ slot_with o = record { range = o }
 
 module _ (index : Option IndexBinding) (m : VertexStepMode) (n : ℕ) where
   each_end : (slots : List VertexSlot) → EachCarries (pass slots [] index) m n
-  each_end slots = λ k st r reads. let e = reads.step_is in let z : ◌≡◌ {A = ℕ} 0 1 = cc in inl (omega arith)
+  each_end slots = λ k st r reads. let e = reads.step_is in cc
 
   each_bare : (steps : List (Option VertexStep)) → EachCarries (pass [] steps index) m n
-  each_bare steps = λ k st r reads. let e = reads.range_is in let z : ◌≡◌ {A = ℕ} 0 1 = cc in inl (omega arith)
+  each_bare steps = λ k st r reads. let e = reads.range_is in cc
 
   each_rest : (s : VertexSlot) (x : Option VertexStep) (slots : List VertexSlot) (steps : List (Option VertexStep)) → EachCarries (pass (s ∷ slots) (x ∷ steps) index) m n → EachCarries (pass slots steps index) m n
   each_rest s x slots steps all = λ k st r reads. all (suc k) st r (record { step_is = reads.step_is; mode_is = reads.mode_is; range_is = reads.range_is })
@@ -37,10 +37,7 @@ module _ (index : Option IndexBinding) (m : VertexStepMode) (n : ℕ) where
 
   -- the head's own part, from its step and its range
   here_some : (st : VertexStep) (range : BufferRange) → (st.mode ≡ m → CarriesItems st (size_of range) n) → (t : VertexStep) (r : BufferRange) → Some st ≡ Some t → t.mode ≡ m → Some range ≡ Some r → CarriesItems t (size_of r) n
-  here_some st range c t r e by y =
-      let e' : st ≡ t = cc in
-      let y' : range ≡ r = cc in
-      subst (λ (q : VertexStep). CarriesItems q (size_of r) n) e' (subst (λ (q : BufferRange). CarriesItems st (size_of q) n) y' (c (ap (λ (q : VertexStep). q.mode) e' ∙ by)))
+  here_some st range c t r e by y = grind arith
 
 -- n is within the limit of mode m exactly where each slot that is read in that mode has n items
 abbrev Decided : Option IndexBinding → VertexStepMode → ℕ → List VertexSlot → List (Option VertexStep) → Type 0
@@ -49,7 +46,7 @@ Decided index m n slots steps = (i : ℕ) (l : VertexLimits) → covered slots s
 module _ (index : Option IndexBinding) (m : VertexStepMode) (n : ℕ) where
   decided_some : (o : Option BufferRange) (st : VertexStep) (slots : List VertexSlot) (steps : List (Option VertexStep)) → Decided index m n slots steps → Decided index m n (slot_with o ∷ slots) (Some st ∷ steps)
   unfolding covered limits_from
-  decided_some None st slots steps ih = λ i l c. let z : ◌≡◌ {A = ℕ} 0 1 = cc in (λ h. (omega arith, λ k t r reads. inl (omega arith)), λ p. omega arith)
+  decided_some None st slots steps ih = λ i l c. cc
   decided_some (Some range) st slots steps ih = λ i l c.
       let now = lowered l i st.mode (own_limit st (size_of range)) in
       let rest = ih (i + 1) now c in
@@ -66,7 +63,7 @@ module _ (index : Option IndexBinding) (m : VertexStepMode) (n : ℕ) where
   decided [] (Some st ∷ steps) = λ i l c. (λ h. (h, each_bare index m n (Some st ∷ steps)), λ p. p.0)
   decided (s ∷ slots) (None ∷ steps) = λ i l c.
       let rest = decided slots steps (i + 1) l c in (
-        λ h. ((rest.0 h).0, each_more index m n s None slots steps (λ st r e by y. let z : ◌≡◌ {A = ℕ} 0 1 = cc in inl (omega arith)) (rest.0 h).1),
+        λ h. ((rest.0 h).0, each_more index m n s None slots steps (λ st r e by y. cc) (rest.0 h).1),
         λ p. rest.1 (p.0, each_rest index m n s None slots steps p.1),
       )
   decided (s ∷ slots) (Some st ∷ steps) = decided_some s.range st slots steps (decided slots steps)
@@ -112,18 +109,17 @@ module _ (index : Option IndexBinding) (m : VertexStepMode) where
   first_here : (st : VertexStep) (range : BufferRange) (slots : List VertexSlot) (steps : List (Option VertexStep)) (i : ℕ) (l was now : VertexLimits) → Falls l was i st.mode m (own_limit st (size_of range)) → Same m was now → Lowest index m (slot_with (Some range) ∷ slots) (Some st ∷ steps) i l now
   first_here st range slots steps i l was now f same = record {
     k = 0;
-    slot_is = (let a = same.slot_is in let b = f.slot_is in omega arith);
-    less = (let a = same.limit_is in let b = f.less in omega arith);
+    slot_is = grind arith;
+    less = grind arith;
     step = st;
     range = range;
     reads = record { step_is = refl; mode_is = f.mode_is; range_is = refl };
-    own = own_greatest st (size_of range) (limit_in m now) (f.own_is ∙ ap (λ (n : ℕ). Some n) (sym same.limit_is));
-    earlier = λ j t r lt reads. inl (omega arith);
+    own = own_greatest st (size_of range) (limit_in m now) (grind arith);
+    earlier = λ j t r lt reads. absurd (omega arith);
   }
 
   not_above : (l was : VertexLimits) (slot : ℕ) (mode : VertexStepMode) (own : Option ℕ) → Stays l was mode m own ⊎ Falls l was slot mode m own → limit_in m was ≤ limit_in m l
-  not_above l was slot mode own (inl s) = omega (arith, s.limit_is)
-  not_above l was slot mode own (inr f) = omega (arith, f.less)
+  not_above l was slot mode own w = grind arith
 
   joined : (st : VertexStep) (range : BufferRange) (slots : List VertexSlot) (steps : List (Option VertexStep)) (i : ℕ) (l was now : VertexLimits) → Stays l was st.mode m (own_limit st (size_of range)) ⊎ Falls l was i st.mode m (own_limit st (size_of range)) → Same m was now ⊎ Lowest index m slots steps (i + 1) was now → Same m l now ⊎ Lowest index m (slot_with (Some range) ∷ slots) (Some st ∷ steps) i l now
   joined st range slots steps i l was now (inl s) (inl same) = inl (record { limit_is = same.limit_is ∙ s.limit_is; slot_is = same.slot_is ∙ s.slot_is })
@@ -136,7 +132,7 @@ module _ (index : Option IndexBinding) (m : VertexStepMode) where
 
   set_some : (o : Option BufferRange) (st : VertexStep) (slots : List VertexSlot) (steps : List (Option VertexStep)) → Set index m slots steps → Set index m (slot_with o ∷ slots) (Some st ∷ steps)
   unfolding covered limits_from
-  set_some None st slots steps ih = λ i l c. let z : ◌≡◌ {A = ℕ} 0 1 = cc in inl (record { limit_is = omega arith; slot_is = omega arith })
+  set_some None st slots steps ih = λ i l c. cc
   set_some (Some range) st slots steps ih = λ i l c.
       let own = own_limit st (size_of range) in
       let was = lowered l i st.mode own in
@@ -144,7 +140,7 @@ module _ (index : Option IndexBinding) (m : VertexStepMode) where
 
   skipped : (s : VertexSlot) (slots : List VertexSlot) (steps : List (Option VertexStep)) (i : ℕ) (l now : VertexLimits) → Same m l now ⊎ Lowest index m slots steps (i + 1) l now → Same m l now ⊎ Lowest index m (s ∷ slots) (None ∷ steps) i l now
   skipped s slots steps i l now (inl same) = inl same
-  skipped s slots steps i l now (inr lowest) = inr (later s None slots steps i l l now (omega arith) (λ st r e by y. let z : ◌≡◌ {A = ℕ} 0 1 = cc in inl (omega arith)) lowest)
+  skipped s slots steps i l now (inr lowest) = inr (later s None slots steps i l l now (omega arith) (λ st r e by y. cc) lowest)
 
   pub set_by : (slots : List VertexSlot) (steps : List (Option VertexStep)) → Set index m slots steps
   unfolding covered limits_from

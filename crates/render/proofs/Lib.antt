@@ -1,5 +1,3 @@
-pub mod Raws
-pub mod Both
 pub mod Folds
 pub mod Carrying
 pub mod Least

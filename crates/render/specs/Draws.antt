@@ -1,5 +1,6 @@
 -- What a draw is held to once it can be asked for.
 use Rattle.std.specs.Prelude.{ℕ, ◌+◌, Bool, cond, ◌&&◌, Ok, Err, Result, nat_lt}
+use Rattle.command.specs.declared.args.DrawArgs.{DrawArgs}
 use Rattle.command.specs.declared.family.DrawCommandFamily.{DrawCommandFamily}
 use Rattle.command.specs.declared.family.DrawCommandFamily.TheVariants.{Draw, DrawIndexed}
 use Rattle.command.specs.declared.refusal.Beyond.{Beyond}
@@ -41,8 +42,8 @@ items_within l indices Draw last = vertex_within l last
 items_within l indices DrawIndexed last = index_within indices last
 
 -- vertices or indices are judged before instances; an accepted draw says whether there is anything to draw
-abbrev pub within_answer : VertexLimits → (indices : ℕ) → DrawCommandFamily → (count instances from from_instance : ℕ) → Result Bool Refusal
-within_answer l indices family count instances from from_instance = and_then (items_within l indices family (from + count)) (λ _. and_then (instance_within l (from_instance + instances)) (λ _. Ok (nat_lt 0 count && nat_lt 0 instances)))
+abbrev pub within_answer : VertexLimits → (indices : ℕ) → DrawCommandFamily → DrawArgs → Result Bool Refusal
+within_answer l indices family a = and_then (items_within l indices family (a.first + a.count)) (λ _. and_then (instance_within l (a.first_instance + a.instances)) (λ _. Ok (nat_lt 0 a.count && nat_lt 0 a.instances)))
 
-abbrev pub draw_answer : Bound → ℕ → (count instances from from_instance : ℕ) → Result Bool Refusal
-draw_answer b kind count instances from from_instance = and_then (ready b kind) (λ family. within_answer (limits_of b) (index_limit_of b) family count instances from from_instance)
+abbrev pub draw_answer : Bound → ℕ → DrawArgs → Result Bool Refusal
+draw_answer b kind a = and_then (ready b kind) (λ family. within_answer (limits_of b) (index_limit_of b) family a)

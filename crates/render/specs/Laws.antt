@@ -1,6 +1,7 @@
 -- What the limits say of the bytes that are bound.
 use Rattle.std.specs.Prelude.{◌≡◌, ℕ, ◌+◌, ◌-◌, ◌^◌, ◌<◌, ◌≤◌, Bool, true, ◌⊎◌, ◌↔◌, length, is_some, is_ok, IfOk, Some, None, Ok, Result}
 use Rattle.command.specs.Family.{family_of}
+use Rattle.command.specs.declared.args.DrawArgs.{DrawArgs}
 use Rattle.command.specs.declared.family.DrawCommandFamily.{DrawCommandFamily}
 use Rattle.command.specs.declared.family.DrawCommandFamily.TheVariants.{DrawIndexed}
 use Rattle.command.specs.declared.refusal.Refusal.{Refusal}
@@ -57,5 +58,5 @@ abbrev pub LimitsAnswered : Bound → Result DrawLimits Refusal → Type 0
 LimitsAnswered b r = IfOk r (LimitsDecide b)
 
 -- a direct draw is accepted exactly where it can be asked for and what is bound carries it
-abbrev pub AcceptedExactly : Bound → ℕ → (count instances from from_instance : ℕ) → Result Bool Refusal → Type 0
-AcceptedExactly b kind count instances from from_instance r = (is_ok r ≡ true) ↔ ((family : DrawCommandFamily) × (ready b kind ≡ Ok family) × Carries b family count instances from from_instance)
+abbrev pub AcceptedExactly : Bound → ℕ → DrawArgs → Result Bool Refusal → Type 0
+AcceptedExactly b kind a r = (is_ok r ≡ true) ↔ ((family : DrawCommandFamily) × (ready b kind ≡ Ok family) × Carries b family a.count a.instances a.first a.first_instance)

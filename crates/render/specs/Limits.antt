@@ -1,6 +1,8 @@
 -- The limits of a pipeline's steps over the slots.
 use Rattle.std.specs.Prelude.{ℕ, ◌+◌, ◌-◌, ◌/◌, ◌^◌, cond, List, [], ◌∷◌, Some, None, Option, ◌==◌, nat_lt}
+use Rattle.render.specs.declared.bindings.IndexBinding.{IndexBinding}
 use Rattle.render.specs.declared.bindings.VertexSlot.{VertexSlot}
+use Rattle.render.specs.declared.limits.Least.{Least}
 use Rattle.render.specs.declared.limits.VertexLimits.{VertexLimits}
 use Rattle.render.specs.declared.steps.VertexStep.{VertexStep}
 use Rattle.render.specs.declared.steps.VertexStepMode.{VertexStepMode}
@@ -21,6 +23,9 @@ unlimited = four_limits (2 ^ 64 - 1) 0 (2 ^ 64 - 1) 0
 abbrev pub nothing : VertexLimits
 nothing = four_limits 0 0 0 0
 
+abbrev pub least : ℕ → ℕ → Least
+least limit slot = record { limit = limit; slot = slot }
+
 -- only a smaller limit replaces
 abbrev pub lowered : VertexLimits → ℕ → VertexStepMode → Option ℕ → VertexLimits
 lowered l slot mode None = l
@@ -39,5 +44,9 @@ abbrev pub limits_of : Bound → VertexLimits
 limits_of b = elim b.steps [ None ↦ nothing | Some steps ↦ limits_from b.slots steps 0 unlimited ]
 
 -- how many whole indices are bound
+abbrev pub whole_indices : Option IndexBinding → ℕ
+whole_indices None = 0
+whole_indices (Some index) = size_of index.range / index_bytes index.format
+
 abbrev pub index_limit_of : Bound → ℕ
-index_limit_of b = elim b.index [ None ↦ 0 | Some index ↦ size_of index.range / index_bytes index.format ]
+index_limit_of b = whole_indices b.index

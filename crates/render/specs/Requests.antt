@@ -1,5 +1,6 @@
 -- What each binding request answers, and what is bound after it.
-use Rattle.std.specs.Prelude.{ℕ, ◌^◌, Bool, true, cond, ◌&&◌, ◌||◌, List, [], ◌∷◌, map, length, Some, None, Ok, Err, Option, Result, ◌==◌, nat_le, nat_lt}
+use Rattle.std.specs.Prelude.{ℕ, ◌^◌, Bool, true, cond, ◌&&◌, ◌||◌, List, map, length, Some, None, Ok, Err, Option, Result, ◌==◌, nat_le, nat_lt}
+use Rattle.std.specs.List.{list_all}
 use Rattle.command.specs.declared.refusal.Refusal.{Refusal}
 use Rattle.command.specs.declared.refusal.Refusal.TheVariants.{NoSuchSlot, MalformedBinding}
 use Rattle.render.specs.declared.bindings.BufferRange.{BufferRange}
@@ -22,6 +23,10 @@ is_range start end = nat_le start end && nat_lt end (2 ^ 32)
 
 abbrev pub range_answer : ℕ → ℕ → Result BufferRange Refusal
 range_answer start end = cond (is_range start end) (Ok (range_of start end)) (Err MalformedBinding)
+
+-- there are sixteen slots
+abbrev pub slot_number : ℕ → Result ℕ Refusal
+slot_number slot = cond (nat_lt slot 16) (Ok slot) (Err NoSuchSlot)
 
 abbrev pub slot_answer : ℕ → ℕ → ℕ → Result (Unit {0}) Refusal
 slot_answer slot start end = cond (nat_lt slot 16) (cond (is_range start end) (Ok tt) (Err MalformedBinding)) (Err NoSuchSlot)
@@ -46,17 +51,25 @@ is_step (Some raw) = nat_lt raw.stride (2 ^ 32) && nat_lt raw.mode 2
 abbrev pub mode_of : ℕ → VertexStepMode
 mode_of mode = cond (mode == 0) Vertex Instance
 
+abbrev pub mode_answer : ℕ → Result VertexStepMode Refusal
+mode_answer mode = cond (nat_lt mode 2) (Ok (mode_of mode)) (Err MalformedBinding)
+
+abbrev pub step_kept : RawStep → VertexStep
+step_kept raw = record { stride = raw.stride; last_stride = raw.last_stride; mode = mode_of raw.mode }
+
+abbrev pub read_answer : RawStep → Result VertexStep Refusal
+read_answer raw = cond (is_step (Some raw)) (Ok (step_kept raw)) (Err MalformedBinding)
+
 abbrev pub step_of : Option RawStep → Option VertexStep
 step_of None = None
-step_of (Some raw) = Some (record { stride = raw.stride; last_stride = raw.last_stride; mode = mode_of raw.mode })
+step_of (Some raw) = Some (step_kept raw)
 
 abbrev pub step_answer : Option RawStep → Result (Option VertexStep) Refusal
 step_answer raw = cond (is_step raw) (Ok (step_of raw)) (Err MalformedBinding)
 
 -- each step of a list is well formed
-unfoldable pub well_formed : List (Option RawStep) → Bool
-well_formed [] = true
-well_formed (raw ∷ raws) = is_step raw && well_formed raws
+abbrev pub well_formed : List (Option RawStep) → Bool
+well_formed raws = list_all is_step raws
 
 abbrev pub step_list : List (Option RawStep) → List (Option VertexStep)
 step_list raws = map step_of raws
@@ -73,6 +86,9 @@ is_index_size bytes = bytes == 2 || bytes == 4
 
 abbrev pub format_of : ℕ → IndexFormat
 format_of bytes = cond (bytes == 2) Uint16 Uint32
+
+abbrev pub format_answer : ℕ → Result IndexFormat Refusal
+format_answer bytes = cond (is_index_size bytes) (Ok (format_of bytes)) (Err MalformedBinding)
 
 abbrev pub index_of : ℕ → ℕ → ℕ → IndexBinding
 index_of start end bytes = record { range = range_of start end; format = format_of bytes }

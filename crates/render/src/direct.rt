@@ -4,9 +4,10 @@ ghost use Rattle.render.specs.Draws.{limits_answer, index_within, within_answer,
 ghost use Rattle.render.specs.Laws.{LimitsAnswered, AcceptedExactly};
 
 use super::bindings::Bindings;
-use super::limits::VertexLimits;
+use super::limits::{VertexLimits, check_limit};
+use command::args::DrawArgs;
 use command::family::DrawCommandFamily;
-use command::refusal::{Beyond, Refusal};
+use command::refusal::Refusal;
 
 /// What a draw of a family is held to: the limits as they are when it is asked for.
 #[derive(Clone, Copy)]
@@ -19,14 +20,10 @@ pub struct DrawLimits {
 }
 
 /// Holds the indices that a draw names to the index binding.
-fn validate_index_limit(limit: u64, first_index: u32, index_count: u32) -> Result<(), Refusal>
-    ensures { result ≡ index_within limit (first_index + index_count) }
+fn validate_index_limit(limit: u64, args: DrawArgs) -> Result<(), Refusal>
+    ensures { result ≡ index_within limit (args.first + args.count) }
 {
-    let last = first_index as u64 + index_count as u64;
-    if last > limit {
-        return Err(Refusal::IndexBeyondLimit(Beyond { last, limit }));
-    }
-    Ok(())
+    check_limit(args.last(), limit).map_err(Refusal::IndexBeyondLimit)
 }
 
 /// Holds a draw to the limits, its vertices or indices before its instances.
@@ -34,19 +31,16 @@ fn validate_draw(
     limits: &VertexLimits,
     index_limit: u64,
     family: DrawCommandFamily,
-    count: u32,
-    instances: u32,
-    first: u32,
-    first_instance: u32,
+    args: DrawArgs,
 ) -> Result<bool, Refusal>
-    ensures { result ≡ within_answer limits.now index_limit family count instances first first_instance }
+    ensures { result ≡ within_answer limits.now index_limit family args }
 {
     match family {
-        DrawCommandFamily::Draw => limits.validate_vertex_limit(first, count)?,
-        DrawCommandFamily::DrawIndexed => validate_index_limit(index_limit, first, count)?,
+        DrawCommandFamily::Draw => limits.validate_vertex_limit(args)?,
+        DrawCommandFamily::DrawIndexed => validate_index_limit(index_limit, args)?,
     }
-    limits.validate_instance_limit(first_instance, instances)?;
-    Ok(count > 0 && instances > 0)
+    limits.validate_instance_limit(args)?;
+    Ok(args.count > 0 && args.instances > 0)
 }
 
 impl Bindings {
@@ -55,12 +49,6 @@ impl Bindings {
     pub fn draw_limits(&self, kind: u64) -> Result<DrawLimits, Refusal>
         ensures answer { result ≡ limits_answer (bound self.now) kind }
         ensures decides { LimitsAnswered (bound self.now) result }
-    {
-        self.limits_when_ready(kind)
-    }
-
-    fn limits_when_ready(&self, kind: u64) -> Result<DrawLimits, Refusal>
-        ensures { result ≡ limits_answer (bound self.now) kind }
     {
         let family = self.is_ready(kind)?;
         let limits = self.limits();
@@ -77,41 +65,11 @@ impl Bindings {
 
     /// Judges a direct draw. An accepted one answers whether both of its counts are above 0.
     /// It is accepted exactly where it can be asked for and the ranges that are bound carry it.
-    pub fn check_draw(
-        &self,
-        kind: u64,
-        count: u32,
-        instances: u32,
-        first: u32,
-        first_instance: u32,
-    ) -> Result<bool, Refusal>
-        ensures answer { result ≡ draw_answer (bound self.now) kind count instances first first_instance }
-        ensures exactly { AcceptedExactly (bound self.now) kind count instances first first_instance result }
-    {
-        self.validate_when_ready(kind, count, instances, first, first_instance)
-    }
-
-    fn validate_when_ready(
-        &self,
-        kind: u64,
-        count: u32,
-        instances: u32,
-        first: u32,
-        first_instance: u32,
-    ) -> Result<bool, Refusal>
-        ensures { result ≡ draw_answer (bound self.now) kind count instances first first_instance }
+    pub fn check_draw(&self, kind: u64, args: DrawArgs) -> Result<bool, Refusal>
+        ensures answer { result ≡ draw_answer (bound self.now) kind args }
+        ensures exactly { AcceptedExactly (bound self.now) kind args result }
     {
         let family = self.is_ready(kind)?;
-        let limits = self.limits();
-        let index_limit = self.index_limit();
-        validate_draw(
-            &limits,
-            index_limit,
-            family,
-            count,
-            instances,
-            first,
-            first_instance,
-        )
+        validate_draw(&self.limits(), self.index_limit(), family, args)
     }
 }

@@ -6,5 +6,4 @@ pub mod direct;
 pub mod limits;
 pub mod ready;
 pub mod requests;
-mod slots;
 pub mod steps;

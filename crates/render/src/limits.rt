@@ -1,16 +1,17 @@
-ghost use Rattle.std.specs.Prelude.{◌≡◌, ◌+◌, ◌^◌, ◌<◌};
+ghost use Rattle.std.specs.Prelude.{◌≡◌, ◌+◌, ◌^◌, ◌<◌, cond, Ok, Err, nat_lt};
 ghost use Rattle.render.specs.Bound.{bound};
-ghost use Rattle.render.specs.Draws.{vertex_within, instance_within};
+ghost use Rattle.render.specs.Draws.{beyond, vertex_within, instance_within};
 ghost use Rattle.render.specs.Laws.{LimitsLaw};
-ghost use Rattle.render.specs.Limits.{own_limit, lowered, limits_from, unlimited, limits_of, index_limit_of};
-ghost use Rattle.render.specs.Sizes.{index_bytes};
+ghost use Rattle.render.specs.Limits.{least, own_limit, limits_from, unlimited, limits_of, index_limit_of};
 
-use super::bindings::{Bindings, IndexFormat, VertexSlot};
+use super::bindings::{Bindings, VertexSlot};
 use super::steps::{MAX_VERTEX_BUFFERS, VertexStep, VertexStepMode};
+use command::args::DrawArgs;
 use command::refusal::{Beyond, Refusal};
 
 /// How many vertices and instances the vertex buffers have, and which slot has the least.
-#[derive(Clone, Copy)]
+/// By default nothing can be drawn.
+#[derive(Clone, Copy, Default)]
 pub struct VertexLimits {
     /// Length of the shortest vertex rate vertex buffer
     pub vertex_limit: u64,
@@ -22,21 +23,29 @@ pub struct VertexLimits {
     pub instance_limit_slot: u32,
 }
 
+/// The least limit of the slots so far, and the first slot that has it.
+#[derive(Clone, Copy)]
+struct Least {
+    limit: u64,
+    slot: u32,
+}
+
 /// No limit yet.
-const UNLIMITED: VertexLimits = VertexLimits {
-    vertex_limit: u64::MAX,
-    vertex_limit_slot: 0,
-    instance_limit: u64::MAX,
-    instance_limit_slot: 0,
+const UNLIMITED: Least = Least {
+    limit: u64::MAX,
+    slot: 0,
 };
 
-/// A required buffer is missing: nothing can be drawn.
-const NOTHING: VertexLimits = VertexLimits {
-    vertex_limit: 0,
-    vertex_limit_slot: 0,
-    instance_limit: 0,
-    instance_limit_slot: 0,
-};
+impl Least {
+    /// Takes up the limit of one slot: only a smaller one replaces that of an earlier slot.
+    fn lower(&mut self, slot: u32, limit: u64)
+        ensures { self.new ≡ cond (nat_lt limit self.old.limit) (least limit slot) self.old }
+    {
+        if limit < self.limit {
+            *self = Least { limit, slot };
+        }
+    }
+}
 
 /// How many items of a step the bytes of its slot are good for; nothing where they are for any number.
 fn own_limit(step: &VertexStep, size: u64) -> Option<u64>
@@ -54,30 +63,17 @@ fn own_limit(step: &VertexStep, size: u64) -> Option<u64>
     Some((size - step.last_stride) / step.stride + 1)
 }
 
-impl VertexLimits {
-    /// Takes up the limit of one slot: only a smaller one replaces that of an earlier slot.
-    fn lower(&mut self, slot: u32, mode: VertexStepMode, limit: Option<u64>)
-        ensures { self.new ≡ lowered self.old slot mode limit }
-    {
-        let Some(limit) = limit else {
-            return;
-        };
-        match mode {
-            VertexStepMode::Vertex => {
-                if limit < self.vertex_limit {
-                    self.vertex_limit = limit;
-                    self.vertex_limit_slot = slot;
-                }
-            }
-            VertexStepMode::Instance => {
-                if limit < self.instance_limit {
-                    self.instance_limit = limit;
-                    self.instance_limit_slot = slot;
-                }
-            }
-        }
+/// Holds what a draw names, up to `last`, to a limit.
+pub(crate) fn check_limit(last: u64, limit: u64) -> Result<(), Beyond>
+    ensures { result ≡ cond (nat_lt limit last) (Err (beyond last limit)) (Ok tt) }
+{
+    if last > limit {
+        return Err(Beyond { last, limit });
     }
+    Ok(())
+}
 
+impl VertexLimits {
     /// The limits of a pipeline's steps over the slots; a step past the last slot has no say.
     pub fn new(
         slots: &[VertexSlot; MAX_VERTEX_BUFFERS],
@@ -85,66 +81,50 @@ impl VertexLimits {
     ) -> VertexLimits
         ensures { result ≡ limits_from slots.now steps.now 0 unlimited }
     {
-        let mut limits = UNLIMITED;
-        for (i, step) in steps.iter().enumerate() {
-            if i >= MAX_VERTEX_BUFFERS {
-                return limits;
-            }
+        let mut vertex = UNLIMITED;
+        let mut instance = UNLIMITED;
+        // In the order of the slots, so that of equal limits the first slot's stands.
+        for (i, (slot, step)) in slots.iter().zip(steps).enumerate() {
             let Some(step) = step else {
                 continue;
             };
-            let Some(range) = slots[i].range else {
+            let Some(range) = slot.range else {
                 // Missing required vertex buffer
-                return NOTHING;
+                return VertexLimits::default();
             };
-            limits.lower(i as u32, step.mode, own_limit(step, range.size()));
+            let Some(limit) = own_limit(step, range.size()) else {
+                continue;
+            };
+            match step.mode {
+                VertexStepMode::Vertex => vertex.lower(i as u32, limit),
+                VertexStepMode::Instance => instance.lower(i as u32, limit),
+            }
         }
-        limits
+        VertexLimits {
+            vertex_limit: vertex.limit,
+            vertex_limit_slot: vertex.slot,
+            instance_limit: instance.limit,
+            instance_limit_slot: instance.slot,
+        }
     }
 
     /// Holds the vertices that a draw names to the limit.
-    pub(crate) fn validate_vertex_limit(
-        &self,
-        first_vertex: u32,
-        vertex_count: u32,
-    ) -> Result<(), Refusal>
-        ensures { result ≡ vertex_within self.now (first_vertex + vertex_count) }
+    pub(crate) fn validate_vertex_limit(&self, args: DrawArgs) -> Result<(), Refusal>
+        ensures { result ≡ vertex_within self.now (args.first + args.count) }
     {
-        let last = first_vertex as u64 + vertex_count as u64;
-        let limit = self.vertex_limit;
-        if last > limit {
-            return Err(Refusal::VertexBeyondLimit(Beyond { last, limit }, self.vertex_limit_slot));
-        }
-        Ok(())
+        check_limit(args.last(), self.vertex_limit).map_err(|beyond| Refusal::VertexBeyondLimit(
+            beyond,
+            self.vertex_limit_slot,
+        ))
     }
 
     /// Holds the instances that a draw names to the limit.
-    pub(crate) fn validate_instance_limit(
-        &self,
-        first_instance: u32,
-        instance_count: u32,
-    ) -> Result<(), Refusal>
-        ensures { result ≡ instance_within self.now (first_instance + instance_count) }
+    pub(crate) fn validate_instance_limit(&self, args: DrawArgs) -> Result<(), Refusal>
+        ensures { result ≡ instance_within self.now (args.first_instance + args.instances) }
     {
-        let last = first_instance as u64 + instance_count as u64;
-        let limit = self.instance_limit;
-        if last > limit {
-            return Err(Refusal::InstanceBeyondLimit(
-                Beyond { last, limit },
-                self.instance_limit_slot,
-            ));
-        }
-        Ok(())
-    }
-}
-
-/// How many bytes an index takes.
-fn byte_size(format: IndexFormat) -> u64
-    ensures { result ≡ index_bytes format }
-{
-    match format {
-        IndexFormat::Uint16 => 2,
-        IndexFormat::Uint32 => 4,
+        check_limit(args.last_instance(), self.instance_limit).map_err(
+            |beyond| Refusal::InstanceBeyondLimit(beyond, self.instance_limit_slot),
+        )
     }
 }
 
@@ -155,8 +135,8 @@ impl Bindings {
         ensures law { LimitsLaw (bound self.now) result }
     {
         match &self.steps {
-            Some(steps) => VertexLimits::new(&self.slots.all, &steps.all[..steps.len]),
-            None => NOTHING,
+            Some(steps) => VertexLimits::new(&self.slots, steps.as_slice()),
+            None => VertexLimits::default(),
         }
     }
 
@@ -164,9 +144,7 @@ impl Bindings {
     pub fn index_limit(&self) -> u64
         ensures { result ≡ index_limit_of (bound self.now) }
     {
-        match self.index {
-            Some(index) => index.range.size() / byte_size(index.format),
-            None => 0,
-        }
+        self.index
+            .map_or(0, |index| index.range.size() / index.format.byte_size())
     }
 }

@@ -13,39 +13,29 @@ fn buffers_bound(slots: &[VertexSlot; MAX_VERTEX_BUFFERS], steps: &[Option<Verte
     requires { length steps.now ≤ 16 }
     ensures { result ≡ covered slots.now steps.now }
 {
-    for (i, step) in steps.iter().enumerate() {
-        let Some(_) = step else {
-            continue;
-        };
-        let Some(_) = slots[i].range else {
-            return false;
-        };
-    }
-    true
+    slots
+        .iter()
+        .zip(steps)
+        .all(|(slot, step)| step.is_none() || slot.range.is_some())
 }
 
 impl Bindings {
-    /// Whether a draw of this kind can be asked for with what is bound, and its family.
+    /// Whether a draw of this kind can be asked for with what is bound, and its family:
+    /// steps are judged first, then their slots, then the index binding, then the kind.
     pub fn is_ready(&self, kind: u64) -> Result<DrawCommandFamily, Refusal>
         ensures answer { result ≡ ready (bound self.now) kind }
         ensures exactly { ReadyExactly (bound self.now) kind result }
     {
-        self.readiness(kind)
-    }
-
-    /// Steps, then their slots, then the index binding, then the kind.
-    fn readiness(&self, kind: u64) -> Result<DrawCommandFamily, Refusal>
-        ensures { result ≡ ready (bound self.now) kind }
-    {
         let Some(steps) = &self.steps else {
             return Err(Refusal::MissingPipeline);
         };
-        if !buffers_bound(&self.slots.all, &steps.all[..steps.len]) {
+        if !buffers_bound(&self.slots, steps.as_slice()) {
             return Err(Refusal::MissingVertexBuffer);
         }
-        if kind == 1 && self.index.is_none() {
+        let family = DrawCommandFamily::try_from(kind);
+        if matches!(family, Ok(DrawCommandFamily::DrawIndexed)) && self.index.is_none() {
             return Err(Refusal::MissingIndexBuffer);
         }
-        DrawCommandFamily::try_from(kind)
+        family
     }
 }

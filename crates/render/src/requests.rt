@@ -1,60 +1,49 @@
-ghost use Rattle.std.specs.Prelude.{◌≡◌, ◌≤◌, true, false, length, take, MatchResult};
+ghost use Rattle.std.specs.Prelude.{◌≡◌, ◌≤◌, true, false, length, MatchResult};
 ghost use Rattle.render.specs.Bound.{bound};
 ghost use Rattle.render.specs.Requests.{slot_answer, after_slot, clear_answer, after_clear, range_answer, index_answer, after_index};
-ghost use Rattle.render.specs.Requests.{step_answer, steps_answer, after_steps, well_formed, step_list};
+ghost use Rattle.render.specs.Requests.{slot_number, step_answer, steps_answer, after_steps, well_formed, step_list};
 
-use super::bindings::{Bindings, BufferRange, IndexBinding, IndexFormat};
-use super::steps::{MAX_VERTEX_BUFFERS, PipelineSteps, RawStep, VertexStep, VertexStepMode};
+use super::bindings::{Bindings, BufferRange, IndexBinding, IndexFormat, VertexSlot};
+use super::steps::{MAX_VERTEX_BUFFERS, PipelineSteps, RawStep, VertexStep};
 use command::refusal::Refusal;
+
+/// Which slot a number names, or refusal 2 where there is none.
+fn slot_index(slot: u64) -> Result<usize, Refusal>
+    ensures { result ≡ slot_number slot }
+{
+    match usize::try_from(slot) {
+        Ok(slot) if slot < MAX_VERTEX_BUFFERS => Ok(slot),
+        _ => Err(Refusal::NoSuchSlot),
+    }
+}
 
 /// A range of two wide numbers, or refusal 3 where it ends before it starts or past 32 bits.
 fn read_range(start: u64, end: u64) -> Result<BufferRange, Refusal>
     ensures { result ≡ range_answer start end }
 {
-    if end < start || end > 4_294_967_295 {
-        return Err(Refusal::MalformedBinding);
+    match (u32::try_from(start), u32::try_from(end)) {
+        (Ok(start), Ok(end)) if start <= end => Ok(BufferRange { start, end }),
+        _ => Err(Refusal::MalformedBinding),
     }
-    Ok(BufferRange {
-        start: start as u32,
-        end: end as u32,
-    })
 }
 
-/// A step as it is kept, or refusal 3 where its stride passes 32 bits or its mode is unknown.
-fn read_step(raw: &Option<RawStep>) -> Result<Option<VertexStep>, Refusal>
-    ensures { result ≡ step_answer raw.now }
+/// A step as it is kept, or refusal 3 where one that is present is malformed.
+fn read_step(raw: Option<RawStep>) -> Result<Option<VertexStep>, Refusal>
+    ensures { result ≡ step_answer raw }
 {
-    let Some(raw) = raw else {
-        return Ok(None);
-    };
-    if raw.stride > 4_294_967_295 {
-        return Err(Refusal::MalformedBinding);
-    }
-    let mode = match raw.mode {
-        0 => VertexStepMode::Vertex,
-        1 => VertexStepMode::Instance,
-        _ => return Err(Refusal::MalformedBinding),
-    };
-    Ok(Some(VertexStep {
-        stride: raw.stride,
-        last_stride: raw.last_stride,
-        mode,
-    }))
+    raw.map(VertexStep::try_from).transpose()
 }
 
 /// All of a pipeline's steps, or refusal 3 where one is malformed.
 fn read_steps(raw: &[Option<RawStep>]) -> Result<PipelineSteps, Refusal>
     requires { length raw.now ≤ 16 }
-    ensures { MatchResult result (λ p. (well_formed raw.now ≡ true) × (take p.len p.all ≡ step_list raw.now)) (λ e. (e ≡ Refusal.MalformedBinding) × (well_formed raw.now ≡ false)) }
+    ensures { MatchResult result (λ steps. (well_formed raw.now ≡ true) × (steps.items ≡ step_list raw.now)) (λ e. (e ≡ Refusal.MalformedBinding) × (well_formed raw.now ≡ false)) }
 {
-    let mut all: [Option<VertexStep>; MAX_VERTEX_BUFFERS] = [None; MAX_VERTEX_BUFFERS];
-    for (i, step) in raw.iter().enumerate() {
-        all[i] = read_step(step)?;
+    let mut steps = PipelineSteps::new();
+    for step in raw {
+        steps.push(read_step(*step)?);
     }
-    Ok(PipelineSteps {
-        all,
-        len: raw.len(),
-    })
+    Ok(steps)
 }
 
 impl Bindings {
@@ -63,11 +52,10 @@ impl Bindings {
         ensures answer { result ≡ slot_answer slot start end }
         ensures after { bound self.new ≡ after_slot (bound self.old) slot start end }
     {
-        if slot >= MAX_VERTEX_BUFFERS as u64 {
-            return Err(Refusal::NoSuchSlot);
-        }
+        let i = slot_index(slot)?;
         let range = read_range(start, end)?;
-        let target = self.slots.at_mut(slot as usize);
+        // One record of the table is lent to be changed, so that no other is within reach.
+        let target = &mut self.slots[i];
         target.range = Some(range);
         Ok(())
     }
@@ -77,10 +65,8 @@ impl Bindings {
         ensures answer { result ≡ clear_answer slot }
         ensures after { bound self.new ≡ after_clear (bound self.old) slot }
     {
-        if slot >= MAX_VERTEX_BUFFERS as u64 {
-            return Err(Refusal::NoSuchSlot);
-        }
-        let emptied = self.slots.at_mut(slot as usize);
+        let i = slot_index(slot)?;
+        let emptied = &mut self.slots[i];
         emptied.range = None;
         Ok(())
     }
@@ -104,11 +90,7 @@ impl Bindings {
         ensures after { bound self.new ≡ after_index (bound self.old) start end bytes }
     {
         let range = read_range(start, end)?;
-        let format = match bytes {
-            2 => IndexFormat::Uint16,
-            4 => IndexFormat::Uint32,
-            _ => return Err(Refusal::MalformedBinding),
-        };
+        let format = IndexFormat::try_from(bytes)?;
         self.index = Some(IndexBinding { range, format });
         Ok(())
     }

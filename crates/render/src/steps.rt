@@ -1,15 +1,34 @@
-ghost use Rattle.std.specs.Prelude.{◌≤◌};
+ghost use Rattle.std.specs.Prelude.{◌≡◌};
+ghost use Rattle.render.specs.Requests.{mode_answer, read_answer};
+
+use arrayvec::ArrayVec;
+use command::refusal::Refusal;
 
 /// How many slots there are, and so how many steps a pipeline can have.
 pub const MAX_VERTEX_BUFFERS: usize = 16;
 
-/// What a vertex buffer advances with.
+/// What a vertex buffer advances with; its number at the boundary is its mode.
 #[derive(Clone, Copy)]
 pub enum VertexStepMode {
-    /// One item for each vertex.
+    /// Mode 0: one item for each vertex.
     Vertex,
-    /// One item for each instance.
+    /// Mode 1: one item for each instance.
     Instance,
+}
+
+/// What a mode goes by, or refusal 3 for a number that names none.
+impl TryFrom<u64> for VertexStepMode {
+    type Error = Refusal;
+
+    ghost try_from_gives = { λ mode answer. answer ≡ mode_answer mode };
+
+    fn try_from(mode: u64) -> Result<VertexStepMode, Refusal> {
+        match mode {
+            0 => Ok(VertexStepMode::Vertex),
+            1 => Ok(VertexStepMode::Instance),
+            _ => Err(Refusal::MalformedBinding),
+        }
+    }
 }
 
 /// How a pipeline reads the slot that it names.
@@ -27,14 +46,27 @@ pub struct VertexStep {
 pub struct RawStep {
     pub stride: u64,
     pub last_stride: u64,
-    /// 0 for a step by vertex, 1 for one by instance.
+    /// 0 for a step by vertex, 1 for one by instance: a number, since callers may write any.
     pub mode: u64,
 }
 
-/// The steps of a pipeline: the first `len` of the table, the one at `i` for slot `i`.
-#[derive(Clone, Copy)]
-pub struct PipelineSteps {
-    pub(crate) all: [Option<VertexStep>; MAX_VERTEX_BUFFERS],
-    pub(crate) len: usize,
-    ghost ok: { len ≤ 16 },
+/// A step as it is kept, or refusal 3 where its stride passes 32 bits or its mode is unknown.
+impl TryFrom<RawStep> for VertexStep {
+    type Error = Refusal;
+
+    ghost try_from_gives = { λ raw answer. answer ≡ read_answer raw };
+
+    fn try_from(raw: RawStep) -> Result<VertexStep, Refusal> {
+        if raw.stride > u64::from(u32::MAX) {
+            return Err(Refusal::MalformedBinding);
+        }
+        Ok(VertexStep {
+            stride: raw.stride,
+            last_stride: raw.last_stride,
+            mode: VertexStepMode::try_from(raw.mode)?,
+        })
+    }
 }
+
+/// The steps of a pipeline, the one at `i` for slot `i`.
+pub(crate) type PipelineSteps = ArrayVec<Option<VertexStep>, MAX_VERTEX_BUFFERS>;

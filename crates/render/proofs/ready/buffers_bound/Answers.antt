@@ -1,22 +1,26 @@
-use Rattle.std.proofs.Common.{◌<◌, length, sym, ◌∙◌, arith}
-use Rattle.render.proofs.Folds.{covered_end, covered_none, covered_missing, covered_some}
+use Rattle.std.proofs.Common.{◌≡◌, ◌≤◌, Bool, not, ◌&&◌, ◌||◌, List, [], ◌∷◌, length, is_some, Some, None, Option, refl, ap, ◌∙◌, arith, rules}
+use Rattle.std.specs.List.{list_all, zip}
+use Rattle.std.proofs.lemmas.Iterator.{YieldsList-from_slice, YieldsList-from_zip}
+use Rattle.std.proofs.lemmas.Iterator.Search.{all_from_yields_List}
+use borrow.Author.Tests.{tests}
+use Rattle.render.specs.declared.bindings.VertexSlot.{VertexSlot}
+use Rattle.render.specs.declared.steps.VertexStep.{VertexStep}
+use Rattle.render.specs.Ready.{covered}
 use Rattle.render.proofs.ready.buffers_bound.Goals as goal
 
-pub loop-i-preserved-in_default : goal.loop-i-preserved-in_default
-loop-i-preserved-in_default c =
-    let lt : c.loop-i.i < length c.args.slots.now = omega arith in
-    sym (covered_none c.args.slots.now c.args.steps.now c.loop-i.i lt c.loop-i-test.true c.in_default.is) ∙ c.loop-i.invariant
+-- a step that is absent needs no range
+abbrev served : VertexSlot × Option VertexStep → Bool
+served p = not (is_some p.1) || is_some p.0.range
 
-pub returns-in_default-range : goal.returns-in_default-range
-returns-in_default-range c =
-    let lt : c.loop-i.i < length c.args.slots.now = omega arith in
-    let e = covered_missing c.args.slots.now c.args.steps.now c.loop-i.i lt c.loop-i-test.true c.in-Some.field-0 c.in-Some.is c.in_default-range.is in
-    cc (e, c.loop-i.invariant)
-
-pub loop-i-preserved : goal.loop-i-preserved
-loop-i-preserved c =
-    let lt : c.loop-i.i < length c.args.slots.now = omega arith in
-    sym (covered_some c.args.slots.now c.args.steps.now c.loop-i.i lt c.loop-i-test.true c.in-Some.field-0 c.in-Some-range.field-0 c.in-Some.is c.in-Some-range.is) ∙ c.loop-i.invariant
+each_served : (slots : List VertexSlot) (steps : List (Option VertexStep)) → length steps ≤ length slots → list_all served (zip slots steps) ≡ covered slots steps
+unfolding covered
+each_served [] [] h = refl
+each_served [] (step ∷ steps) h = absurd (omega arith)
+each_served (s ∷ slots) [] h = refl
+each_served (s ∷ slots) (None ∷ steps) h = each_served slots steps (omega arith)
+each_served (s ∷ slots) (Some st ∷ steps) h = ap (λ (b : Bool). is_some s.range && b) (each_served slots steps (omega arith))
 
 pub returns : goal.returns
-returns c = sym (covered_end c.args.slots.now c.args.steps.now c.loop-i.i c.loop-i-test.false) ∙ c.loop-i.invariant
+returns c =
+    all_from_yields_List served c.all.new.self _ _ c.all.ensures.ran (YieldsList-from_zip (YieldsList-from_slice c.args.slots.now (cc)) (YieldsList-from_slice c.args.steps.now (cc))) (λ x b q k. search (rules, tests))
+    ∙ each_served c.args.slots.now c.args.steps.now (omega arith)

@@ -1,6 +1,11 @@
-use Rattle.std.proofs.Common.{◌≡◌, length, take, drop}
+use Rattle.std.proofs.Common.{◌≡◌, true, take}
+use Rattle.arrayvec.specs.ArrayVec.{array_vec_len}
 use Rattle.render.specs.Requests.{well_formed, step_list}
 use Rattle.render.proofs.requests.read_steps.Given as goal
 
-abbrev pub invariant-loop-i : goal.invariant-loop-i
-invariant-loop-i l = (well_formed (drop l.i l.raw) ≡ well_formed l.raw) × (take l.i l.all ≡ step_list (take l.i l.raw)) × (length l.all ≡ 16)
+abbrev pub invariant-loop-step : goal.invariant-loop-step
+invariant-loop-step l = record {
+  well : well_formed (take l.step-index l.raw) ≡ true;
+  kept : l.steps.items ≡ step_list (take l.step-index l.raw);
+  len : array_vec_len l.steps ≡ l.step-index;
+}

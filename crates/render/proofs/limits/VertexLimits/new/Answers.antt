@@ -1,28 +1,28 @@
-use Rattle.std.proofs.Common.{◌<◌, ◌≤◌, length, sym, ◌∙◌, arith}
-use Rattle.render.proofs.Folds.{from_end, from_last, from_none, from_missing, from_some}
+use Rattle.std.proofs.Common.{None, sym, refl, ◌∙◌, rules}
+use Rattle.std.specs.Iterator.Adapters.{enumerate_source}
+use Rattle.std.proofs.lemmas.Slice.Zip.{either_empty_from_Zip}
+use Rattle.render.proofs.Folds.{both, from_end, goes_none, ends_missing, goes_repeated, goes_vertex, goes_instance}
 use Rattle.render.proofs.limits.VertexLimits.new.Goals as goal
 
-pub returns-then-i-ge-MAX_VERTEX_BUFFERS : goal.returns-then-i-ge-MAX_VERTEX_BUFFERS
-returns-then-i-ge-MAX_VERTEX_BUFFERS c =
-    let past : length c.args.slots.now ≤ c.loop-i.i = omega arith in
-    sym (from_last c.args.slots.now c.args.steps.now c.loop-i.i c.loop-i.limits past) ∙ c.loop-i.invariant
-
 pub loop-i-preserved-in_default : goal.loop-i-preserved-in_default
-loop-i-preserved-in_default c =
-    let lt : c.loop-i.i < length c.args.slots.now = omega arith in
-    sym (from_none c.args.slots.now c.args.steps.now c.loop-i.i c.loop-i.limits lt c.loop-i-test.true c.in_default.is) ∙ c.loop-i.invariant
+loop-i-preserved-in_default c = goes_none c.loop-i.vertex c.loop-i.instance c.in-Some.ensures.steps c.loop-i.invariant c.in_default.is
 
 pub returns-in_default-range : goal.returns-in_default-range
-returns-in_default-range c =
-    let lt : c.loop-i.i < length c.args.slots.now = omega arith in
-    let e = from_missing c.args.slots.now c.args.steps.now c.loop-i.i c.loop-i.limits lt c.loop-i-test.true c.in-Some.step c.in-Some.is c.in_default-range.is in
-    cc (e, c.loop-i.invariant)
+returns-in_default-range c = search rules ∙ ends_missing c.loop-i.vertex c.loop-i.instance c.in-Some.ensures.steps c.loop-i.invariant c.in-Some-step.is c.in_default-range.is
+
+pub loop-i-preserved-in_default-own_limit : goal.loop-i-preserved-in_default-own_limit
+loop-i-preserved-in_default-own_limit c =
+    goes_repeated c.loop-i.vertex c.loop-i.instance c.in-Some.ensures.steps c.loop-i.invariant c.in-Some-step.is c.in-Some-range.is c.size.ensures.value c.own_limit.ensures c.in_default-own_limit.is
+
+pub loop-i-preserved-in-Vertex : goal.loop-i-preserved-in-Vertex
+loop-i-preserved-in-Vertex c =
+    rw c.lower.ensures (goes_vertex c.loop-i.vertex c.loop-i.instance c.in-Some.ensures.steps c.loop-i.invariant c.in-Some-step.is c.in-Some-range.is c.size.ensures.value c.own_limit.ensures c.in-Some-own_limit.is c.in-Vertex.is)
 
 pub loop-i-preserved : goal.loop-i-preserved
 loop-i-preserved c =
-    let lt : c.loop-i.i < length c.args.slots.now = omega arith in
-    let e = from_some c.args.slots.now c.args.steps.now c.loop-i.i c.loop-i.limits lt c.loop-i-test.true c.in-Some.step c.in-Some-range.range c.in-Some.is c.in-Some-range.is in
-    cc (e, c.loop-i.invariant, c.lower.ensures, c.own_limit.ensures, c.size.ensures.value)
+    rw c.lower-in-Instance.ensures (goes_instance c.loop-i.vertex c.loop-i.instance c.in-Some.ensures.steps c.loop-i.invariant c.in-Some-step.is c.in-Some-range.is c.size.ensures.value c.own_limit.ensures c.in-Some-own_limit.is c.in-Instance.is)
 
 pub returns : goal.returns
-returns c = sym (from_end c.args.slots.now c.args.steps.now c.loop-i.i c.loop-i.limits c.loop-i-test.false) ∙ c.loop-i.invariant
+returns c =
+    let done = c.in-None.ensures.steps in
+    sym (from_end _ _ _ (both c.loop-i.vertex c.loop-i.instance) (either_empty_from_Zip _ (enumerate_source c.next.new.self) None refl done.0)) ∙ c.loop-i.invariant
