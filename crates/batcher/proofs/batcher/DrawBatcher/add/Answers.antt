@@ -8,8 +8,8 @@ use Rattle.batcher.proofs.batcher.DrawBatcher.add.Goals as goal
 pub returns-in_err-chosen-clause-bounded : goal.returns-in_err-chosen-clause-bounded
 returns-in_err-chosen-clause-bounded g c = held_bounded c.args.terms.now
 
-pub returns-then-not-ensure-clause-bounded : goal.returns-then-not-ensure-clause-bounded
-returns-then-not-ensure-clause-bounded g c = held_bounded c.args.terms.now
+pub returns-in_err-ensure-clause-bounded : goal.returns-in_err-ensure-clause-bounded
+returns-in_err-ensure-clause-bounded g c = held_bounded c.args.terms.now
 
 pub returns-clause-holds : goal.returns-clause-holds
 returns-clause-holds g c = λ ws h.
