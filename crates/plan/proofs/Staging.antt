@@ -1,25 +1,23 @@
 -- A plan spreads the batches over blocks and buffers, and leaves what they are.
-use Rattle.std.proofs.Common.{◌≡◌, ℕ, ◌+◌, ◌<◌, ◌≤◌, Bool, true, false, cond, ltb, leb, List, [], ◌∷◌, ◌++◌, map, length, get_or, take, drop, IfOk, Some, None, Ok, Err, Option, Result, sym, refl, ap, ◌∙◌, subst, inl, inr, arith, leb-false, leb-true}
+use Rattle.std.proofs.Common.{◌≡◌, ℕ, ◌+◌, ◌*◌, ◌<◌, ◌≤◌, Bool, true, false, cond, leb, List, [], ◌∷◌, ◌++◌, map, length, get_or, take, drop, Some, None, Option, sym, refl, ap, ◌∙◌, inl, inr, arith, leb-false, leb-true}
 use lib.ListN.{get_or-map}
 use Rattle.std.proofs.ByRecursion.{All-weaker}
+use Rattle.std.proofs.lemmas.List.Elements.{All-head, All-tail}
 use Rattle.std.proofs.lemmas.List.{length-map, length-take-le, length-append, length-drop, take_at}
-use Rattle.std.specs.List.{AllByRecursion}
+use Rattle.std.specs.List.{AllByRecursion, AllZip}
 use Rattle.places.proofs.Spreading.{laid_apart}
 use Rattle.places.specs.Laid.{Span, span, Chained, Follows, Laid}
 use Rattle.places.specs.Placed.{entry, following, past}
 use Rattle.places.specs.declared.current.CurrentEntry.{CurrentEntry}
 use Rattle.batcher.proofs.Bounding.{bounded}
-use Rattle.batcher.specs.Holds.{Bounded, Held, Holds, Paired, Recorded, key_of}
+use Rattle.batcher.specs.Holds.{Bounded, Held, Holds, Recorded, key_of}
 use Rattle.batcher.specs.Judged.{Batching, Terms, Wanted}
 use Rattle.batcher.specs.Records.{no_batch}
 use Rattle.batcher.specs.declared.records.BatchKey.{BatchKey}
 use Rattle.batcher.specs.declared.records.DrawIndirectValidationBatch.{DrawIndirectValidationBatch}
 use Rattle.batcher.specs.declared.records.IndirectDraw.{IndirectDraw}
 use Rattle.command.specs.declared.family.DrawCommandFamily.{DrawCommandFamily}
-use Rattle.command.specs.declared.refusal.Refusal.{Refusal}
-use Rattle.command.specs.declared.refusal.Refusal.TheVariants.{TableFull, NoBuffer}
-use Rattle.plan.specs.declared.frame.FramePlan.{FramePlan}
-use Rattle.plan.specs.Planned.{batches_after, plan_answer, bytes_of, ending, measured, next_of, place_of, planned}
+use Rattle.plan.specs.Planned.{bytes_of, ending, measured, next_of, place_of, planned}
 use Rattle.plan.specs.Staged.{Spread, Staged, metadata_span, staging_span}
 use Rattle.plan.proofs.Placing.{ending_up}
 use Rattle.plan.proofs.Summing.{all_total, total, total_draws}
@@ -108,12 +106,15 @@ module _ (block room : ℕ) where
   sizes_small : (most : ℕ) (bs : List DrawIndirectValidationBatch) → room ≤ most → Bounded room bs → (s m : Option CurrentEntry) → (f : DrawIndirectValidationBatch → CurrentEntry) → AllByRecursion (λ x. x.size ≤ most) (map (λ b. span (f b) (bytes_of b)) (planned block room bs s m))
   unfolding planned
   sizes_small most [] le a s m f = tt
-  sizes_small most (b ∷ bs) le a s m f = (omega (arith, a.0, le), sizes_small most bs le a.1 (next_of block s b) (next_of room m b) f)
+  sizes_small most (b ∷ bs) le a s m f = (
+    omega (arith, All-head (λ (x : DrawIndirectValidationBatch). x.count * 16 ≤ room) b bs a, le),
+    sizes_small most bs le (All-tail (λ x. x.count * 16 ≤ room) b bs a) (next_of block s b) (next_of room m b) f,
+  )
 
 spread : (room : ℕ) (spans : List Span) → Laid room spans → AllByRecursion (λ s. s.size ≤ room) spans → Spread room spans
 spread room spans l z = let a = laid_apart room spans l z in record { laid = l; apart = a.0; within = a.1 }
 
-pub batches_known : (t : Terms) (ks : List BatchKey) (ws : List Wanted) (ds : List IndirectDraw) → Paired (Recorded t ks) ws ds → AllByRecursion (λ d. d.batch < length ks) ds
+pub batches_known : (t : Terms) (ks : List BatchKey) (ws : List Wanted) (ds : List IndirectDraw) → AllZip (Recorded t ks) ws ds → AllByRecursion (λ d. d.batch < length ks) ds
 batches_known t ks [] [] p = tt
 batches_known t ks [] (d ∷ ds) p = absurd p
 batches_known t ks (w ∷ ws) [] p = tt
@@ -144,35 +145,15 @@ whole_planned block room n bs h =
     length-append (planned block room (take n bs) None None) (drop n bs)
     ∙ omega (arith, planned_length block room (take n bs) None None, length-take-le n bs h, length-drop n bs)
 
-module _ (block room n : ℕ) (bs : List DrawIndirectValidationBatch) where
-  planned_holds : (t : Terms) (ws : List Wanted) (s : Batching) (ds : List IndirectDraw) → s.batches ≡ n → Holds t ws s ds bs → Holds t ws s ds (planned block room (take n bs) None None ++ drop n bs)
-  planned_holds t ws s ds e h =
-      let le : n ≤ length bs = omega (arith, h.opened, e) in
-      record {
-        drawn = h.drawn;
-        opened = omega (arith, h.opened, whole_planned block room n bs le);
-        held = subst (λ (k : ℕ). Held t ws s.current (take s.draws ds) (take k (planned block room (take n bs) None None ++ drop n bs))) (sym e)
-            (rw (front_planned block room n bs le) (planned_held t ws s.current (take s.draws ds) (take n bs) block room None None
-            (subst (λ (k : ℕ). Held t ws s.current (take s.draws ds) (take k bs)) e h.held)));
-      }
+-- a plan of what is recorded, in a table that holds it
+module _ (block : ℕ) (t : Terms) (ws : List Wanted) (s : Batching) (ds : List IndirectDraw) (bs : List DrawIndirectValidationBatch) (h : Holds t ws s ds bs) where
+  pub planned_holds : (room : ℕ) → Holds t ws s ds (planned block room (take s.batches bs) None None ++ drop s.batches bs)
+  planned_holds room = record {
+    drawn = h.drawn;
+    opened = omega (arith, h.opened, whole_planned block room s.batches bs h.opened);
+    held = rw (front_planned block room s.batches bs h.opened) (planned_held t ws s.current (take s.draws ds) (take s.batches bs) block room None None h.held);
+  }
 
-  -- whatever a plan answers, the tables hold what they held
-  pub after_holds : (r : Result FramePlan Refusal) (t : Terms) (ws : List Wanted) (s : Batching) (ds : List IndirectDraw) → s.batches ≡ n → Holds t ws s ds bs → Holds t ws s ds (batches_after block room n r bs)
-  after_holds (Ok p) t ws s ds e h = planned_holds t ws s ds e h
-  after_holds (Err x) t ws s ds e h = h
-
-  answer_measured : (capacity : ℕ) (p : FramePlan) (a b : Bool) → cond a (Err TableFull) (cond b (Err NoBuffer) (Ok (measured block room (take n bs)))) ≡ Ok p → measured block room (take n bs) ≡ p
-  answer_measured capacity p true b e = let z : ◌≡◌ {A = ℕ} 0 1 = cc in absurd (omega arith)
-  answer_measured capacity p false true e = let z : ◌≡◌ {A = ℕ} 0 1 = cc in absurd (omega arith)
-  answer_measured capacity p false false e = cc
-
-  pub after_staged : (capacity : ℕ) (r : Result FramePlan Refusal) → r ≡ plan_answer block room n bs capacity → (t : Terms) → t.room ≡ room → room ≤ block → ((f : DrawCommandFamily) → 16 ≤ t.dst f) → ((f : DrawCommandFamily) → t.dst f ≤ t.room) → (ws : List Wanted) (s : Batching) (ds : List IndirectDraw) → s.batches ≡ n → Holds t ws s ds bs → IfOk r (λ p. Staged block room s.draws p.blocks p.metadata (take n (batches_after block room n r bs)))
-  after_staged capacity (Err x) q t e le least most ws s ds n' h = tt
-  after_staged capacity (Ok p) q t e le least most ws s ds n' h =
-      let in_table : n ≤ length bs = omega (arith, h.opened, n') in
-      let held : Held t ws s.current (take s.draws ds) (take n bs) = subst (λ (k : ℕ). Held t ws s.current (take s.draws ds) (take k bs)) n' h.held in
-      let st : Staged block t.room (length (take s.draws ds)) (measured block t.room (take n bs)).blocks (measured block t.room (take n bs)).metadata (planned block t.room (take n bs) None None) = staged t block (omega (arith, e, le)) least most ws s.current (take s.draws ds) (take n bs) held in
-      let sr : Staged block room (length (take s.draws ds)) (measured block room (take n bs)).blocks (measured block room (take n bs)).metadata (planned block room (take n bs) None None) = subst (λ (x : ℕ). Staged block x (length (take s.draws ds)) (measured block x (take n bs)).blocks (measured block x (take n bs)).metadata (planned block x (take n bs) None None)) e st in
-      let sd : Staged block room s.draws (measured block room (take n bs)).blocks (measured block room (take n bs)).metadata (planned block room (take n bs) None None) = subst (λ (x : ℕ). Staged block room x (measured block room (take n bs)).blocks (measured block room (take n bs)).metadata (planned block room (take n bs) None None)) (length-take-le s.draws ds h.drawn) sr in
-      let sp : Staged block room s.draws p.blocks p.metadata (planned block room (take n bs) None None) = subst (λ (x : FramePlan). Staged block room s.draws x.blocks x.metadata (planned block room (take n bs) None None)) (answer_measured capacity p (ltb (length bs) n) (ltb capacity (measured block room (take n bs)).metadata) (sym q)) sd in
-      rw (front_planned block room n bs in_table) sp
+  pub planned_staged : t.room ≤ block → ((f : DrawCommandFamily) → 16 ≤ t.dst f) → ((f : DrawCommandFamily) → t.dst f ≤ t.room) → Staged block t.room s.draws (measured block t.room (take s.batches bs)).blocks (measured block t.room (take s.batches bs)).metadata (take s.batches (planned block t.room (take s.batches bs) None None ++ drop s.batches bs))
+  planned_staged le least most =
+      rw (front_planned block t.room s.batches bs h.opened) (rw (length-take-le s.draws ds h.drawn) at (staged t block le least most ws s.current (take s.draws ds) (take s.batches bs) h.held))

@@ -1,6 +1,6 @@
 -- Sums over blocks, batches and draws.
-use Rattle.std.proofs.Common.{◌≡◌, ℕ, zero, suc, ◌+◌, ◌*◌, ◌<◌, ◌≤◌, true, false, cond, eqb, List, [], ◌∷◌, length, get_or, refl, ap, ◌∙◌, ⊎_elim, arith, eq-eqb, ne_eqb}
-use Rattle.std.proofs.lemmas.Bool.{cases_eq}
+use Rattle.std.proofs.Common.{◌≡◌, ℕ, zero, suc, ◌+◌, ◌*◌, ◌<◌, ◌≤◌, cond, eqb, List, [], ◌∷◌, length, get_or, refl, ap, ◌∙◌, arith}
+use Rattle.std.proofs.lemmas.Bool.Decides.{nat_tests}
 use Rattle.std.specs.List.{AllByRecursion}
 use Rattle.batcher.specs.Holds.{tally}
 use Rattle.batcher.specs.Records.{no_batch}
@@ -20,22 +20,15 @@ none_bytes (suc n) = omega (arith, none_bytes n)
 one_outside : (n : ℕ) (b : DrawIndirectValidationBatch) (bs : List DrawIndirectValidationBatch) → n ≤ b.staging.index → all_bytes n (b ∷ bs) ≡ all_bytes n bs
 one_outside zero b bs h = refl
 one_outside (suc n) b bs h =
-    let ne : eqb b.staging.index n ≡ false = ne_eqb b.staging.index n (λ e. omega (arith, h, e)) in
     let r = one_outside n b bs (omega (arith, h)) in
-    simp ne (omega (arith, r))
+    grind (arith, nat_tests)
 
 one_inside : (n : ℕ) (b : DrawIndirectValidationBatch) (bs : List DrawIndirectValidationBatch) → b.staging.index < n → all_bytes n (b ∷ bs) ≡ bytes_of b + all_bytes n bs
 one_inside zero b bs h = absurd (omega (arith, h))
-one_inside (suc n) b bs h = ⊎_elim
-    (λ (e : b.staging.index ≡ n).
-    let q : eqb b.staging.index n ≡ true = eq-eqb b.staging.index n e in
-    let r = one_outside n b bs (omega (arith, e)) in
-    simp q (omega (arith, r)))
-    (λ (e : b.staging.index ≡ n → ⊥).
-    let q : eqb b.staging.index n ≡ false = ne_eqb b.staging.index n e in
-    let r = one_inside n b bs (omega (arith, h, e)) in
-    simp q (omega (arith, r)))
-    (cases_eq b.staging.index n)
+one_inside (suc n) b bs h =
+    let out = one_outside n b bs in
+    let inside = one_inside n b bs in
+    grind (arith, nat_tests)
 
 -- every batch is staged in one of the blocks
 pub all_total : (n : ℕ) (bs : List DrawIndirectValidationBatch) → AllByRecursion (λ b. b.staging.index < n) bs → all_bytes n bs ≡ total bs
@@ -75,16 +68,16 @@ sum_below : (k n : ℕ) → n ≤ k → sum_up (λ i. cond (eqb k i) 1 0 * 16) n
 unfolding sum_up
 sum_below k zero h = refl
 sum_below k (suc n) h =
-    let q : eqb k n ≡ false = ne_eqb k n (λ e. omega (arith, h, e)) in
-    simp q (omega (arith, sum_below k n (omega (arith, h))))
+    let r = sum_below k n (omega (arith, h)) in
+    grind (arith, nat_tests)
 
 sum_one : (k n : ℕ) → k < n → sum_up (λ i. cond (eqb k i) 1 0 * 16) n ≡ 16
 unfolding sum_up
 sum_one k zero h = absurd (omega (arith, h))
-sum_one k (suc n) h = ⊎_elim
-    (λ (e : k ≡ n). let q : eqb k n ≡ true = eq-eqb k n e in simp q (omega (arith, sum_below k n (omega (arith, e)))))
-    (λ (e : k ≡ n → ⊥). let q : eqb k n ≡ false = ne_eqb k n e in simp q (omega (arith, sum_one k n (omega (arith, h, e)))))
-    (cases_eq k n)
+sum_one k (suc n) h =
+    let below = sum_below k n in
+    let r = sum_one k n in
+    grind (arith, nat_tests)
 
 sum_tallies : (n : ℕ) (ds : List IndirectDraw) → AllByRecursion (λ d. d.batch < n) ds → sum_up (λ i. tally i ds * 16) n ≡ length ds * 16
 sum_tallies n [] a = sum_none n

@@ -30,92 +30,42 @@ fn bytes_of(batch: &DrawIndirectValidationBatch) -> u64
     u64::from(batch.count) * 16
 }
 
-// Where `size` bytes go, without asking a supply.
-fn place_after(current: Option<CurrentEntry>, size: u64, buffer_size: u64) -> CurrentEntry
-    requires { following current < 2 ^ 64 }
-    ensures value { result ≡ placed current size buffer_size }
-    ensures end { result.offset + size < 2 ^ 64 }
-    ensures reached { result.index ≤ following current }
+// Where the next `size` bytes go, without asking a supply; moves the current place past them.
+fn place(current: &mut Option<CurrentEntry>, size: u64, buffer_size: u64) -> CurrentEntry
+    requires { following current.old < 2 ^ 64 }
+    ensures value { result ≡ placed current.old size buffer_size }
+    ensures current { current.new ≡ Some (past (placed current.old size buffer_size) size) }
+    ensures reached { result.index ≤ following current.old }
 {
-    next_place(current, size, buffer_size).unwrap()
-}
-
-// The current place once `size` bytes stand after it.
-fn advance(current: Option<CurrentEntry>, size: u64, buffer_size: u64) -> CurrentEntry
-    requires { following current < 2 ^ 64 }
-    ensures value { result ≡ past (placed current size buffer_size) size }
-    ensures reached { result.index ≤ following current }
-{
-    let place = place_after(current, size, buffer_size);
-    CurrentEntry {
+    let place = next_place(*current, size, buffer_size).unwrap();
+    *current = Some(CurrentEntry {
         index: place.index,
         offset: place.offset + size,
-    }
-}
-
-// The number of buffers up to the current one.
-fn count_up_to(current: Option<CurrentEntry>) -> usize
-    requires { following current < 2 ^ 64 }
-    ensures { result ≡ following current }
-{
-    match current {
-        Some(entry) => entry.index + 1,
-        None => 0,
-    }
+    });
+    place
 }
 
 /// How many staging blocks and metadata buffers the batches need, by the place rule; nothing is changed.
+#[tactic(auto, using(crate::proofs::Ending::ending_more, crate::proofs::Ending::ending_all))]
 pub fn measure(batches: &[DrawIndirectValidationBatch], sizes: &Sizes) -> FramePlan
     ensures { result ≡ measured sizes.now.block sizes.now.buffer batches.now }
 {
+    let block = sizes.block();
+    let buffer = sizes.buffer();
     let mut staging = None;
     let mut metadata = None;
     for batch in batches {
         let bytes = bytes_of(batch);
-        staging = Some(advance(staging, bytes, sizes.block()));
-        metadata = Some(advance(metadata, bytes, sizes.buffer()));
+        place(&mut staging, bytes, block);
+        place(&mut metadata, bytes, buffer);
     }
     FramePlan {
-        blocks: count_up_to(staging),
-        metadata: count_up_to(metadata),
+        blocks: staging.map_or(0, |last| last.index + 1),
+        metadata: metadata.map_or(0, |last| last.index + 1),
     }
 }
 
-// Gives one batch its two places. There is a buffer for it, so that the supply does not refuse.
-fn place_batch<S: Supply>(
-    supply: &mut S,
-    staging: &mut Option<CurrentEntry>,
-    metadata: &mut Option<CurrentEntry>,
-    batch: DrawIndirectValidationBatch,
-    sizes: &Sizes,
-) -> DrawIndirectValidationBatch
-    requires staging { following staging.old < 2 ^ 64 }
-    requires metadata { following metadata.old < 2 ^ 64 }
-    requires held { following metadata.old ≤ S.Supply.held (S.Supply.view supply.old) }
-    requires enough { following (next_of sizes.now.buffer metadata.old batch) ≤ S.Supply.held (S.Supply.view supply.old) + S.Supply.more (S.Supply.view supply.old) }
-    ensures value { result ≡ put batch (place_of sizes.now.block staging.old batch) (place_of sizes.now.buffer metadata.old batch) }
-    ensures staging { staging.new ≡ next_of sizes.now.block staging.old batch }
-    ensures metadata { metadata.new ≡ next_of sizes.now.buffer metadata.old batch }
-    ensures supply { S.Supply.view supply.new ≡ (if fits metadata.old (bytes_of batch) sizes.now.buffer then S.Supply.view supply.old else S.Supply.ensured (S.Supply.view supply.old) (place_of sizes.now.buffer metadata.old batch).index) }
-    ensures whole { S.Supply.held (S.Supply.view supply.new) + S.Supply.more (S.Supply.view supply.new) ≡ S.Supply.held (S.Supply.view supply.old) + S.Supply.more (S.Supply.view supply.old) }
-    ensures held { following metadata.new ≤ S.Supply.held (S.Supply.view supply.new) }
-    ensures kept { S.Supply.names supply.new ≡ S.Supply.names supply.old }
-{
-    let bytes = bytes_of(&batch);
-    let staged = place_after(*staging, bytes, sizes.block());
-    *staging = Some(CurrentEntry {
-        index: staged.index,
-        offset: staged.offset + bytes,
-    });
-    let described = get_subrange_impl(supply, metadata, bytes, sizes.buffer()).unwrap();
-    DrawIndirectValidationBatch {
-        staging: staged,
-        metadata: described,
-        ..batch
-    }
-}
-
-// Gives every batch its two places.
+// Gives every batch its two places. There is a buffer for each, so that the supply does not refuse.
 fn place_batches<S: Supply>(
     supply: &mut S,
     batches: &mut [DrawIndirectValidationBatch],
@@ -126,35 +76,16 @@ fn place_batches<S: Supply>(
     ensures supply { S.Supply.view supply.new ≡ supplied S.Supply.ensured sizes.now.buffer batches.old None (S.Supply.view supply.old) }
     ensures kept { S.Supply.names supply.new ≡ S.Supply.names supply.old }
 {
+    let block = sizes.block();
+    let buffer = sizes.buffer();
     let mut staging = None;
     let mut metadata = None;
-    for i in 0..batches.len() {
-        let batch = batches[i];
-        batches[i] = place_batch(supply, &mut staging, &mut metadata, batch, sizes);
+    for batch in batches.iter_mut() {
+        let bytes = bytes_of(batch);
+        batch.staging = place(&mut staging, bytes, block);
+        let described = get_subrange_impl(supply, &mut metadata, bytes, buffer);
+        batch.metadata = described.unwrap();
     }
-}
-
-// The plan of the first `recorded` batches; its laws stand on `plan`.
-fn plan_recorded<S: Supply>(
-    recorded: usize,
-    supply: &mut S,
-    batches: &mut [DrawIndirectValidationBatch],
-    sizes: &Sizes,
-) -> Result<FramePlan, Refusal>
-    ensures answer { result ≡ plan_answer sizes.now.block sizes.now.buffer recorded batches.old (S.Supply.held (S.Supply.view supply.old) + S.Supply.more (S.Supply.view supply.old)) }
-    ensures batches { batches.new ≡ batches_after sizes.now.block sizes.now.buffer recorded result batches.old }
-    ensures supply { S.Supply.view supply.new ≡ supply_after S.Supply.ensured sizes.now.buffer recorded result batches.old (S.Supply.view supply.old) }
-    ensures kept { S.Supply.names supply.new ≡ S.Supply.names supply.old }
-{
-    if recorded > batches.len() {
-        return Err(Refusal::TableFull);
-    }
-    let needed = measure(&batches[0..recorded], sizes);
-    if needed.metadata > supply.capacity() {
-        return Err(Refusal::NoBuffer);
-    }
-    place_batches(supply, &mut batches[0..recorded], sizes);
-    Ok(needed)
 }
 
 /// Plans a frame: gives every recorded batch a place in staging blocks and one in metadata buffers, by the place
@@ -174,5 +105,14 @@ pub fn plan<S: Supply>(
     ensures holds { (t : Terms) (ws : List Wanted) (ds : List IndirectDraw) → Holds t ws (batching batcher.now) ds batches.old → Holds t ws (batching batcher.now) ds batches.new }
     ensures staged { (s : Settings) (ws : List Wanted) (ds : List IndirectDraw) → Holds (terms s sizes.now) ws (batching batcher.now) ds batches.old → IfOk result (λ p. Staged sizes.now.block sizes.now.buffer batcher.now.draws p.blocks p.metadata (take batcher.now.batches batches.new)) }
 {
-    plan_recorded(batcher.batches(), supply, batches, sizes)
+    let recorded = batcher.batches();
+    if recorded > batches.len() {
+        return Err(Refusal::TableFull);
+    }
+    let needed = measure(&batches[..recorded], sizes);
+    if needed.metadata > supply.capacity() {
+        return Err(Refusal::NoBuffer);
+    }
+    place_batches(supply, &mut batches[..recorded], sizes);
+    Ok(needed)
 }
