@@ -43,8 +43,8 @@ impl DrawBatcher {
         ensures kept { S.Supply.names supply.new ≡ S.Supply.names supply.old }
     {
         let chosen = self.judge(draws, batches, settings, sizes, request)?;
-        if chosen.asks && !supply.ensure(chosen.draw.place.index) {
-            return Err(Refusal::NoBuffer);
+        if chosen.asks {
+            supply.ensure(chosen.draw.place.index)?;
         }
         draws[self.draws] = chosen.draw;
         batches[chosen.draw.batch] = chosen.batch;
