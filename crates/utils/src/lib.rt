@@ -53,6 +53,7 @@ fn write(indices: &[usize], marks: &mut [u8], out: &mut [usize]) -> Option<usize
     ensures out { IfSome result (λ n. n ≤ length out.old → out.new ≡ fronted (firsts indices.now) out.old) }
 {
     let mut seen = UniqueIndex::new(marks);
+    // counts past the end of `out` too, so that it is no place of an iterator over `out`
     let mut found = 0;
     for index in indices {
         if seen.insert(*index)? {

@@ -5,6 +5,7 @@ pub struct Batch {
     pub count: u32,
 }
 
+// The marks are an array in a plain struct: a later layer that uses this form allocates nothing.
 /// What keeps marks between groups.
 #[derive(Drop)]
 pub struct Groups {
