@@ -85,9 +85,9 @@ pub length_all : (fs : List (List ℕ)) (ns : List ℕ) → all_numbers fs ≡ S
 length_all [] ns e = let z : ns ≡ [] = cc in ap length z
 length_all (f ∷ fs) ns e =
     (elim (number_of f) as (λ o. and_then o (λ n. before n (all_numbers fs)) ≡ Some ns → length ns ≡ suc (length fs)) [
-      | None ↦ λ k. let z : ◌≡◌ {A = ℕ} 0 1 = cc in absurd (omega arith)
+      | None ↦ λ k. cc
       | Some n ↦ λ k. (elim (all_numbers fs) as (λ o. ((ms : List ℕ) → o ≡ Some ms → length ms ≡ length fs) → before n o ≡ Some ns → length ns ≡ suc (length fs)) [
-        | None ↦ λ _ j. let z : ◌≡◌ {A = ℕ} 0 1 = cc in absurd (omega arith)
+        | None ↦ λ _ j. cc
         | Some ms ↦ λ ih j. let z : ns ≡ n ∷ ms = cc in ap length z ∙ ap suc (ih ms refl)
       ]) (length_all fs) k
     ]) e

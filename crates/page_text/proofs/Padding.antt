@@ -131,8 +131,8 @@ bare_line l (Draw d) rest (ds, e, h) r = ap (λ (m : List ℕ). bare false (m ++
 bare_lines : (ls : List (List ℕ)) (xs : List Line) → map line_of ls ≡ map Some xs → bare false (ended ls) ≡ lines_text xs
 unfolding bare ended lines_text
 bare_lines [] [] e = refl
-bare_lines [] (x ∷ xs) e = let z : ◌≡◌ {A = ℕ} 0 1 = cc in absurd (omega arith)
-bare_lines (l ∷ ls) [] e = let z : ◌≡◌ {A = ℕ} 0 1 = cc in absurd (omega arith)
+bare_lines [] (x ∷ xs) e = cc
+bare_lines (l ∷ ls) [] e = cc
 bare_lines (l ∷ ls) (x ∷ xs) e =
     let h : line_of l ≡ Some x = cc in
     let t : map line_of ls ≡ map Some xs = cc in

@@ -60,7 +60,7 @@ total_fields (c ∷ cs) =
 
 -- f of a value is there, so the value is
 pub some_of : {A B : Type 0} (f : A → Option B) (o : Option A) (y : B) → and_then o f ≡ Some y → (a : A) × (o ≡ Some a) × (f a ≡ Some y)
-some_of f None y e = let z : ◌≡◌ {A = ℕ} 0 1 = cc in absurd (omega arith)
+some_of f None y e = cc
 some_of f (Some a) y e = (a, refl, e)
 
 all_sized : (fs : List (List ℕ)) (ns : List ℕ) → all_numbers fs ≡ Some ns → AllByRecursion (λ n. n < 2 ^ 64) ns × (weight ns ≤ total fs)
@@ -151,7 +151,7 @@ module _ (l : List ℕ) (x : Line) where
   by_words None (Some r) c d ha hb hc hd e = by_binding r (hb r refl) e
   by_words None None (Some r) d ha hb hc hd e = by_source r (hc r refl) e
   by_words None None None (Some r) ha hb hc hd e = by_draw r (hd r refl) e
-  by_words None None None None ha hb hc hd e = let z : ◌≡◌ {A = ℕ} 0 1 = cc in absurd (omega arith)
+  by_words None None None None ha hb hc hd e = cc
 
   pub spelt : line_of l ≡ Some x → Spelt l x
   spelt e =
