@@ -8,15 +8,15 @@ use scene::Scene;
 use std::io;
 
 /// 3 vertices, 1 copy, from vertex 0 and copy 0 on; the lowest byte of each number comes first.
-const ORDER: [u8; 16] = [3, 0, 0, 0, 1, 0, 0, 0, 0, 0, 0, 0, 0, 0, 0, 0];
+const ORDER: [[u8; 4]; 4] = [[3, 0, 0, 0], [1, 0, 0, 0], [0; 4], [0; 4]];
 
 /// The same with one vertex more than the bound bytes hold.
-const LONGER: [u8; 16] = [4, 0, 0, 0, 1, 0, 0, 0, 0, 0, 0, 0, 0, 0, 0, 0];
+const LONGER: [[u8; 4]; 4] = [[4, 0, 0, 0], [1, 0, 0, 0], [0; 4], [0; 4]];
 
 fn tell(rt: &HostRuntime, scene: &Scene) -> io::Result<()> {
-    let order = story::words_of(&ORDER);
-    let longer = story::words_of(&LONGER);
-    story::tell_order(rt, &ORDER, &order)?;
+    let order = ORDER.map(u32::from_le_bytes);
+    let longer = LONGER.map(u32::from_le_bytes);
+    story::tell_order(rt, ORDER.as_flattened(), &order)?;
     match scene.follow(&order) {
         Ok(followed) => story::tell_followed(rt, scene, &followed, &order)?,
         Err(refusal) => story::tell_refusal(rt, refusal)?,

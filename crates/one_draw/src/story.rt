@@ -7,16 +7,6 @@ use entry::metadata::MetadataEntry;
 use std::io;
 use validation::follow::Followed;
 
-/// Sixteen bytes as four numbers, the lowest byte of each first.
-pub fn words_of(b: &[u8; 16]) -> [u32; 4] {
-    [
-        u32::from_le_bytes([b[0], b[1], b[2], b[3]]),
-        u32::from_le_bytes([b[4], b[5], b[6], b[7]]),
-        u32::from_le_bytes([b[8], b[9], b[10], b[11]]),
-        u32::from_le_bytes([b[12], b[13], b[14], b[15]]),
-    ]
-}
-
 pub fn tell_refusal(rt: &HostRuntime, refusal: Refusal) -> io::Result<()> {
     let number = refusal.number();
     println!(rt;
@@ -31,7 +21,7 @@ pub fn tell_numbers(rt: &HostRuntime, order: &[u32; 4]) -> io::Result<()> {
     )
 }
 
-pub fn tell_order(rt: &HostRuntime, bytes: &[u8; 16], order: &[u32; 4]) -> io::Result<()> {
+pub fn tell_order(rt: &HostRuntime, bytes: &[u8], order: &[u32; 4]) -> io::Result<()> {
     println!(rt; "ONE ORDER TO DRAW, FROM ITS SIXTEEN BYTES TO WHAT IS DRAWN\n")?;
     println!(rt; "1. The order")?;
     println!(rt; "A graphics card draws triangles. The corner of a triangle is called a vertex.")?;

@@ -1,22 +1,20 @@
 -- numbers between commas
 use Rattle.std.proofs.Common.{◌≡◌, ℕ, suc, ◌<◌, true, eqb, List, [], ◌∷◌, ◌++◌, length, IfSome, Some, None, Option, sym, refl, ap, ◌∙◌, arith}
-use Rattle.std.proofs.lemmas.Bool.{cond-false, cond_both, ne_eqb, and_parts}
+use Rattle.std.proofs.lemmas.Bool.{ne_eqb, and_parts}
 use Rattle.std.proofs.lemmas.Bool.Decides.{nat_tests}
-use Rattle.std.specs.List.{onto_first}
+use Rattle.std.proofs.lemmas.List.Elements.{All-from_recursion}
+use Rattle.std.proofs.lemmas.List.Splits.{join_with_byte-slice_split, slice_split_at, slice_split_none}
+use Rattle.std.specs.List.{join_with_byte}
 use Rattle.page.specs.Numbers.{is_digit, digits_only, number_of}
 use Rattle.page.specs.Texts.{Free, fields_of}
 use Rattle.page.specs.Lines.{and_then, before, all_numbers, numbers_of, draw_of}
 use Rattle.page.proofs.Parts.{digit_range}
 
 pub fields_more : (l rest : List ℕ) → Free 44 l → fields_of (l ++ (44 ∷ rest)) ≡ l ∷ fields_of rest
-unfolding fields_of
-fields_more [] rest f = refl
-fields_more (c ∷ l) rest f = cond-false (eqb c 44) _ _ f.0 ∙ ap (onto_first c) (fields_more l rest f.1)
+fields_more l rest f = slice_split_at (λ c. eqb c 44) l 44 rest (All-from_recursion _ l f) refl
 
 pub fields_last : (l : List ℕ) → Free 44 l → fields_of l ≡ l ∷ []
-unfolding fields_of
-fields_last [] f = refl
-fields_last (c ∷ l) f = cond-false (eqb c 44) _ _ f.0 ∙ ap (onto_first c) (fields_last l f.1)
+fields_last l f = slice_split_none (λ c. eqb c 44) l (All-from_recursion _ l f)
 
 abbrev alone : ℕ → Option (List ℕ)
 alone n = Some (n ∷ [])
@@ -59,35 +57,22 @@ number_digits bs n e = grind (arith, nat_tests)
 pub number_alone : (bs : List ℕ) (n : ℕ) → Some n ≡ number_of bs → numbers_of bs ≡ Some (n ∷ [])
 number_alone bs n e = numbers_last bs (digits_free 44 (omega arith) bs (number_digits bs n e)) ∙ ap (λ (o : Option ℕ). and_then o alone) (sym e)
 
--- there is always a field, and one alone is the text
-pub fields_some : (bs : List ℕ) → 0 < length (fields_of bs)
-unfolding fields_of
-fields_some [] = omega arith
-fields_some (c ∷ cs) = cond_both (eqb c 44) ([] ∷ fields_of cs) (onto_first c (fields_of cs)) (λ l. 0 < length l) (λ _. omega arith) (λ _. first_some (fields_of cs))
-  where
-    first_some : (ls : List (List ℕ)) → 0 < length (onto_first c ls)
-    first_some [] = omega arith
-    first_some (l ∷ ls) = omega arith
-
+-- a text with one field is that field
 fields_one : (bs : List ℕ) → length (fields_of bs) ≡ 1 → fields_of bs ≡ bs ∷ []
-unfolding fields_of
-fields_one [] h = refl
-fields_one (c ∷ cs) h =
-    (cond_both (eqb c 44) ([] ∷ fields_of cs) (onto_first c (fields_of cs)) (λ l. length l ≡ 1 → l ≡ (c ∷ cs) ∷ [])
-    (λ _ k. let s = fields_some cs in absurd (omega arith))
-    (λ _ k. one_first (fields_of cs) (fields_some cs) k (fields_one cs))) h
+fields_one bs h = alone (fields_of bs) h (join_with_byte-slice_split 44 bs)
   where
-    one_first : (ls : List (List ℕ)) → 0 < length ls → length (onto_first c ls) ≡ 1 → (length ls ≡ 1 → ls ≡ cs ∷ []) → onto_first c ls ≡ (c ∷ cs) ∷ []
-    one_first [] s k f = absurd (omega arith)
-    one_first (l ∷ ls) s k f = ap (onto_first c) (f k)
+    alone : (fs : List (List ℕ)) → length fs ≡ 1 → join_with_byte 44 fs ≡ bs → fs ≡ bs ∷ []
+    alone [] k e = absurd (omega arith)
+    alone (f ∷ []) k e = ap (λ l. l ∷ []) e
+    alone (f ∷ g ∷ fs) k e = absurd (omega arith)
 
 pub length_all : (fs : List (List ℕ)) (ns : List ℕ) → all_numbers fs ≡ Some ns → length ns ≡ length fs
 length_all [] ns e = let z : ns ≡ [] = cc in ap length z
 length_all (f ∷ fs) ns e =
     (elim (number_of f) as (λ o. and_then o (λ n. before n (all_numbers fs)) ≡ Some ns → length ns ≡ suc (length fs)) [
-      | None ↦ λ k. let z : ◌≡◌ {A = ℕ} 0 1 = cc in absurd (omega arith)
+      | None ↦ λ k. cc
       | Some n ↦ λ k. (elim (all_numbers fs) as (λ o. ((ms : List ℕ) → o ≡ Some ms → length ms ≡ length fs) → before n o ≡ Some ns → length ns ≡ suc (length fs)) [
-        | None ↦ λ _ j. let z : ◌≡◌ {A = ℕ} 0 1 = cc in absurd (omega arith)
+        | None ↦ λ _ j. cc
         | Some ms ↦ λ ih j. let z : ns ≡ n ∷ ms = cc in ap length z ∙ ap suc (ih ms refl)
       ]) (length_all fs) k
     ]) e

@@ -68,7 +68,7 @@ abbrev Has : List (Option Line) → Sheet → Type 0
 Has os q = (os ≡ map Some (sheet_lines q)) × (0 < length q.sources) × (length q.sources ≤ 64)
 
 never : (n : ℕ) (q : Sheet) (os : List (Option Line)) → bad n ≡ good q → Has os q
-never n q os e = let z : ◌≡◌ {A = ℕ} 0 1 = cc in absurd (omega arith)
+never n q os e = cc
 
 ended : (s : Stage) (n : ℕ) (p q : Sheet) → Kept s p → cond (may_end s) (good p) (bad n) ≡ good q → Has (map Some (so_far s p) ++ []) q
 ended Start n p q k e = never n q _ e
@@ -108,8 +108,8 @@ total_lines (c ∷ cs) =
 each_line : (ls : List (List ℕ)) (xs : List Line) → map line_of ls ≡ map Some xs → AllByRecursion LineFits xs × (length (lines_text xs) ≤ total ls)
 unfolding lines_text
 each_line [] [] e = (tt, omega arith)
-each_line [] (x ∷ xs) e = let z : ◌≡◌ {A = ℕ} 0 1 = cc in absurd (omega arith)
-each_line (l ∷ ls) [] e = let z : ◌≡◌ {A = ℕ} 0 1 = cc in absurd (omega arith)
+each_line [] (x ∷ xs) e = cc
+each_line (l ∷ ls) [] e = cc
 each_line (l ∷ ls) (x ∷ xs) e =
     let h : line_of l ≡ Some x = cc in
     let t : map line_of ls ≡ map Some xs = cc in
@@ -120,12 +120,12 @@ each_line (l ∷ ls) (x ∷ xs) e =
 pub not_long : (text : List ℕ) (p : Sheet) → read_page text ≡ good p → read_lines (lines_of text) ≡ good p
 not_long text p e =
     (cond_both (ltb 65536 (length text)) (bad 0) (read_lines (lines_of text)) (λ r. r ≡ good p → read_lines (lines_of text) ≡ good p)
-    (λ _ f. let z : ◌≡◌ {A = ℕ} 0 1 = cc in absurd (omega arith)) (λ _ f. f)) e
+    (λ _ f. cc) (λ _ f. f)) e
 
 within : (text : List ℕ) (p : Sheet) → read_page text ≡ good p → length text ≤ 65536
 within text p e =
     (cond_both (ltb 65536 (length text)) (bad 0) (read_lines (lines_of text)) (λ r. r ≡ good p → length text ≤ 65536)
-    (λ _ f. let z : ◌≡◌ {A = ℕ} 0 1 = cc in absurd (omega arith)) (λ t _. ltb-false 65536 (length text) t)) e
+    (λ _ f. cc) (λ t _. ltb-false 65536 (length text) t)) e
 
 -- the lines of a sheet after its first
 abbrev tails : Sheet → List Line

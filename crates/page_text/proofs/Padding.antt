@@ -8,12 +8,13 @@ use Rattle.page.specs.declared.line.Line.{Line}
 use Rattle.page.specs.declared.line.Line.TheVariants.{Align, Binding, Source, Draw}
 use Rattle.page.specs.Numbers.{is_digit, digits_only, value_after, number_of}
 use Rattle.page.specs.Texts.{fields_of, lines_of}
-use Rattle.std.specs.List.{onto_first}
+use Rattle.std.proofs.lemmas.List.Splits.{join_with_byte-slice_split, length-slice_split}
+use Rattle.std.specs.List.{join_with_byte, onto_first}
 use Rattle.page.specs.Lines.{before, all_numbers, numbers_of, line_of}
 use Rattle.page.specs.Written.{line_text, lines_text}
 use Rattle.page_text.specs.Laws.{starts_digit, bare, unpadded}
 use Rattle.page_text.proofs.Ending.{ended}
-use Rattle.page.proofs.Fields.{fields_some, length_all}
+use Rattle.page.proofs.Fields.{length_all}
 use Rattle.page_text.proofs.Spelling.{Numeral, numeral, some_of, five, Spelt, spelt}
 use Rattle.page_text.proofs.Returning.{own}
 
@@ -72,26 +73,11 @@ bare_number ds rest n h r =
 
 -- fields with commas between them
 abbrev commas : List (List ℕ) → List ℕ
-commas [] = []
-commas (f ∷ []) = f
-commas (f ∷ g ∷ fs) = f ++ (44 ∷ commas (g ∷ fs))
-
-commas_first : (c : ℕ) (fs : List (List ℕ)) → commas (onto_first c fs) ≡ c ∷ commas fs
-commas_first c [] = refl
-commas_first c (f ∷ []) = refl
-commas_first c (f ∷ g ∷ fs) = refl
+commas fs = join_with_byte 44 fs
 
 commas_more : (f : List ℕ) (fs : List (List ℕ)) → 0 < length fs → commas (f ∷ fs) ≡ f ++ (44 ∷ commas fs)
 commas_more f [] h = absurd (omega arith)
 commas_more f (g ∷ fs) h = refl
-
-commas_fields : (bs : List ℕ) → commas (fields_of bs) ≡ bs
-unfolding fields_of
-commas_fields [] = refl
-commas_fields (c ∷ cs) =
-    cond_both (eqb c 44) ([] ∷ fields_of cs) (onto_first c (fields_of cs)) (λ l. commas l ≡ c ∷ cs)
-    (λ e. commas_more [] (fields_of cs) (fields_some cs) ∙ ap (λ (l : List ℕ). 44 ∷ l) (commas_fields cs) ∙ ap (λ (m : ℕ). m ∷ cs) (sym (eqb-true c 44 e)))
-    (λ _. commas_first c (fields_of cs) ∙ ap (λ (l : List ℕ). c ∷ l) (commas_fields cs))
 
 bare_comma : (rest : List ℕ) → bare false (44 ∷ rest) ≡ 44 ∷ bare false rest
 unfolding bare
@@ -118,7 +104,7 @@ bare_commas (f ∷ g ∷ fs) ns rest h e r =
 
 bare_numbers : (bs ns rest : List ℕ) → numbers_of bs ≡ Some ns → starts_digit rest ≡ false → bare false (bs ++ rest) ≡ commas (map decimal ns) ++ bare false rest
 unfolding numbers_of
-bare_numbers bs ns rest e r = ap (λ (l : List ℕ). bare false (l ++ rest)) (sym (commas_fields bs)) ∙ bare_commas (fields_of bs) ns rest (fields_some bs) e r
+bare_numbers bs ns rest e r = ap (λ (l : List ℕ). bare false (l ++ rest)) (sym (join_with_byte-slice_split 44 bs)) ∙ bare_commas (fields_of bs) ns rest (omega (arith, length-slice_split (λ c. eqb c 44) bs)) e r
 
 -- a line becomes the line as it is written
 bare_line : (l : List ℕ) (x : Line) (rest : List ℕ) → Spelt l x → starts_digit rest ≡ false → bare false (l ++ rest) ≡ line_text x ++ bare false rest
@@ -131,8 +117,8 @@ bare_line l (Draw d) rest (ds, e, h) r = ap (λ (m : List ℕ). bare false (m ++
 bare_lines : (ls : List (List ℕ)) (xs : List Line) → map line_of ls ≡ map Some xs → bare false (ended ls) ≡ lines_text xs
 unfolding bare ended lines_text
 bare_lines [] [] e = refl
-bare_lines [] (x ∷ xs) e = let z : ◌≡◌ {A = ℕ} 0 1 = cc in absurd (omega arith)
-bare_lines (l ∷ ls) [] e = let z : ◌≡◌ {A = ℕ} 0 1 = cc in absurd (omega arith)
+bare_lines [] (x ∷ xs) e = cc
+bare_lines (l ∷ ls) [] e = cc
 bare_lines (l ∷ ls) (x ∷ xs) e =
     let h : line_of l ≡ Some x = cc in
     let t : map line_of ls ≡ map Some xs = cc in

@@ -1,5 +1,6 @@
 -- what is written of a sheet is read back
 use Rattle.std.proofs.Common.{◌≡◌, ℕ, ◌^◌, ◌<◌, ◌≤◌, true, cond, leb, List, [], ◌∷◌, ◌++◌, map, length, Some, None, codes, decimal, Option, sym, refl, ap, ◌∙◌, append_assoc, arith, lit<, rules}
+use Rattle.std.proofs.ByRecursion.{All-append}
 use Rattle.std.specs.List.{AllByRecursion}
 use Rattle.std.proofs.lemmas.Str.Parse.{IsNumeralModel, FoldsDigits, IsDigitsTest, numerals_by_fold}
 use Rattle.std.proofs.lemmas.Fmt.{digits_decimal, digits_value-decimal, length-decimal-le, decimal_nonempty}
@@ -38,8 +39,7 @@ free_decimal : (b : ℕ) → b < 48 → (n : ℕ) → n < 2 ^ 64 → Free b (dec
 free_decimal b k n h = digits_free b k (decimal n) (digits_decimal own n h)
 
 free_append : (b : ℕ) (xs ys : List ℕ) → Free b xs → Free b ys → Free b (xs ++ ys)
-free_append b [] ys f g = g
-free_append b (x ∷ xs) ys f g = (f.0, free_append b xs ys f.1 g)
+free_append b xs ys f g = All-append _ xs ys f g
 
 one_more : (n : ℕ) → n < 2 ^ 64 → (rest : List ℕ) → numbers_of (decimal n ++ (44 ∷ rest)) ≡ before n (numbers_of rest)
 one_more n h rest = numbers_more (decimal n ++ (44 ∷ rest)) (decimal n) rest (Some n) (free_decimal 44 (omega arith) n h) refl (number_decimal n h)

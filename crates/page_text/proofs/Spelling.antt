@@ -10,6 +10,7 @@ use Rattle.page.specs.declared.line.Line.{Line}
 use Rattle.page.specs.declared.line.Line.TheVariants.{Align, Binding, Source, Draw}
 use Rattle.page.specs.Numbers.{digits_only, value_after, number_of}
 use Rattle.page.specs.Texts.{after_word, fields_of}
+use Rattle.std.proofs.lemmas.List.Splits.{length-slice_split}
 use Rattle.std.specs.List.{onto_first}
 use Rattle.page.specs.Lines.{and_then, before, all_numbers, numbers_of, draw_of, source_of, line_of, align_kind, binding_kind, source_kind, draw_kind}
 use Rattle.page.specs.Written.{line_text}
@@ -46,21 +47,16 @@ pub total_first : (c : ℕ) (fs : List (List ℕ)) → 0 < length fs → total (
 total_first c [] h = absurd (omega arith)
 total_first c (f ∷ fs) h = omega arith
 
-total_fields : (bs : List ℕ) → (total (fields_of bs) ≡ length bs + 1) × (0 < length (fields_of bs))
-unfolding fields_of
-total_fields [] = (refl, omega arith)
+total_fields : (bs : List ℕ) → total (fields_of bs) ≡ length bs + 1
+total_fields [] = refl
 total_fields (c ∷ cs) =
     let h = total_fields cs in
-    cond_both (eqb c 44) ([] ∷ fields_of cs) (onto_first c (fields_of cs)) (λ l. (total l ≡ suc (length cs) + 1) × (0 < length l))
-    (λ _. (omega arith, omega arith)) (λ _. (omega (arith, total_first c (fields_of cs) h.1), first_some (fields_of cs)))
-  where
-    first_some : (ls : List (List ℕ)) → 0 < length (onto_first c ls)
-    first_some [] = omega arith
-    first_some (l ∷ ls) = omega arith
+    let some : 0 < length (fields_of cs) = omega (arith, length-slice_split (λ c. eqb c 44) cs) in
+    cond_both (eqb c 44) ([] ∷ fields_of cs) (onto_first c (fields_of cs)) (λ l. total l ≡ suc (length cs) + 1) (λ _. omega arith) (λ _. omega (arith, total_first c (fields_of cs) some))
 
 -- f of a value is there, so the value is
 pub some_of : {A B : Type 0} (f : A → Option B) (o : Option A) (y : B) → and_then o f ≡ Some y → (a : A) × (o ≡ Some a) × (f a ≡ Some y)
-some_of f None y e = let z : ◌≡◌ {A = ℕ} 0 1 = cc in absurd (omega arith)
+some_of f None y e = cc
 some_of f (Some a) y e = (a, refl, e)
 
 all_sized : (fs : List (List ℕ)) (ns : List ℕ) → all_numbers fs ≡ Some ns → AllByRecursion (λ n. n < 2 ^ 64) ns × (weight ns ≤ total fs)
@@ -76,7 +72,7 @@ all_sized (f ∷ fs) ns e =
 -- numbers between commas are below 2^64, and their decimals are no longer
 pub numbers_sized : (bs ns : List ℕ) → numbers_of bs ≡ Some ns → AllByRecursion (λ n. n < 2 ^ 64) ns × (weight ns ≤ length bs + 1)
 unfolding numbers_of
-numbers_sized bs ns e = let k = all_sized (fields_of bs) ns e in (k.0, omega (arith, k.1, (total_fields bs).0))
+numbers_sized bs ns e = let k = all_sized (fields_of bs) ns e in (k.0, omega (arith, k.1, total_fields bs))
 
 -- a word that was followed stands in front
 pub word_rest : (ws bs rest : List ℕ) → after_word ws bs ≡ Some rest → bs ≡ ws ++ rest
@@ -151,7 +147,7 @@ module _ (l : List ℕ) (x : Line) where
   by_words None (Some r) c d ha hb hc hd e = by_binding r (hb r refl) e
   by_words None None (Some r) d ha hb hc hd e = by_source r (hc r refl) e
   by_words None None None (Some r) ha hb hc hd e = by_draw r (hd r refl) e
-  by_words None None None None ha hb hc hd e = let z : ◌≡◌ {A = ℕ} 0 1 = cc in absurd (omega arith)
+  by_words None None None None ha hb hc hd e = cc
 
   pub spelt : line_of l ≡ Some x → Spelt l x
   spelt e =

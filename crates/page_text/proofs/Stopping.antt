@@ -37,7 +37,7 @@ reach_append (l ∷ xs) ys s =
     ]
 
 never : {A : Type 0} (n : ℕ) (q : Sheet) → bad n ≡ good q → A
-never n q e = let z : ◌≡◌ {A = ℕ} 0 1 = cc in absurd (omega arith)
+never n q e = cc
 
 -- a text that is read leads somewhere, and lines that lead to an end are read
 good_reach : (ls : List (List ℕ)) (s : Stage) (n : ℕ) (p q : Sheet) → read_on (map line_of ls) s n p ≡ good q → (t : Stage) × (reach ls s ≡ Some t)
@@ -55,9 +55,9 @@ unfolding read_on reach
 reach_good [] s t n p e m = let z : s ≡ t = cc in (p, cond-true (may_end s) (good p) (bad n) (ap may_end z ∙ m))
 reach_good (l ∷ ls) s t n p e m =
     (elim (line_of l) as (λ o. and_then o (λ x. and_then (next_of s x) (reach ls)) ≡ Some t → (q : Sheet) × (read_on (o ∷ map line_of ls) s n p ≡ good q)) [
-      | None ↦ λ f. let z : ◌≡◌ {A = ℕ} 0 1 = cc in absurd (omega arith)
+      | None ↦ λ f. cc
       | Some x ↦ λ f. (elim (next_of s x) as (λ o. and_then o (reach ls) ≡ Some t → (q : Sheet) × (elim o as (λ _. Parsed) [ None ↦ bad n | Some u ↦ read_on (map line_of ls) u (n + 1) (added p x) ] ≡ good q))
-          [ None ↦ λ g. let z : ◌≡◌ {A = ℕ} 0 1 = cc in absurd (omega arith) | Some u ↦ λ g. reach_good ls u t (n + 1) (added p x) g m ]) f
+          [ None ↦ λ g. cc | Some u ↦ λ g. reach_good ls u t (n + 1) (added p x) g m ]) f
     ]) e
 
 -- k lines lead on, and then a line does not, or the text ends too soon
@@ -72,7 +72,7 @@ record Stops (ls : List (List ℕ)) (s : Stage) (n m : ℕ) : Type 0 where
 
 at_end : (s : Stage) (n m : ℕ) (p : Sheet) → cond (may_end s) (good p) (bad n) ≡ bad m → (n ≡ m) × (may_end s ≡ false)
 at_end s n m p e =
-    (cond_both (may_end s) (good p) (bad n) (λ r. r ≡ bad m → (n ≡ m) × (may_end s ≡ false)) (λ _ f. let z : ◌≡◌ {A = ℕ} 0 1 = cc in absurd (omega arith)) (λ u f. (cc, u))) e
+    (cond_both (may_end s) (good p) (bad n) (λ r. r ≡ bad m → (n ≡ m) × (may_end s ≡ false)) (λ _ f. cc) (λ u f. (cc, u))) e
 
 at_once : (l : List ℕ) (ls : List (List ℕ)) (s : Stage) (n m : ℕ) → n ≡ m → reach (l ∷ []) s ≡ None → Stops (l ∷ ls) s n m
 unfolding reach
@@ -176,7 +176,7 @@ few : (t : Stage) (u : ℕ) → Small t u → may_end t ≡ false → u ≤ 56
 few Start u h m = omega arith
 few Aligned u h m = omega arith
 few (Sources k) u h m = h (omega (arith, ltb-false 0 k m))
-few Draws u h m = let z : ◌≡◌ {A = ℕ} 0 1 = cc in absurd (omega arith)
+few Draws u h m = cc
 
 -- lines that lead from a stage to an end
 record Finish (s : Stage) : Type 0 where
@@ -245,7 +245,7 @@ fits_long ks ls t f n h g k =
 under : (k : ℕ) (text : List ℕ) (t : Stage) → may_end t ≡ true → (k ≡ length (lines_of text) → may_end t ≡ false) → k ≤ length (lines_of text) → total (take k (lines_of text)) ≤ length text
 under k text t m n w =
     elim (cases_eq k (length (lines_of text))) as (λ _. total (take k (lines_of text)) ≤ length text) [
-      | inl e ↦ let b : ◌≡◌ {A = Bool} true false = sym m ∙ n e in let z : ◌≡◌ {A = ℕ} 0 1 = cc in absurd (omega arith)
+      | inl e ↦ let b : ◌≡◌ {A = Bool} true false = sym m ∙ n e in cc
       | inr d ↦ let l : k < length (lines_of text) = omega arith in omega (arith, total_take k (lines_of text) l, total_lines text)
     ]
 

@@ -1,3 +1,4 @@
 pub mod Printing
 pub mod Sounding
 pub mod Telling
+pub mod Whole

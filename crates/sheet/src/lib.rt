@@ -4,3 +4,4 @@
 pub mod answer;
 pub mod frame;
 pub mod print;
+pub mod reader;
