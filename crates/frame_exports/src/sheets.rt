@@ -1,7 +1,7 @@
 ghost use Rattle.sheet.specs.Printed.{printed};
 ghost use Rattle.std.specs.Prelude.{◌≡◌, ◌⊎◌, ◌++◌, length, drop, if◌then◌else◌, nat_eq, nat_le};
 
-use super::status::{NO_MEMORY, SHORT_OUTPUT};
+use super::status::Failure;
 use sheet::answer::answer;
 use std::alloc::Global;
 
@@ -13,12 +13,12 @@ pub fn jorumspit_sheet(heap: Global, text: &[u8], output: &mut [u8], needed: &mu
     ensures written { output.new ≡ (if nat_eq result 0 then printed text.now ++ drop (length (printed text.now)) output.old else output.old) }
 {
     let Ok(print) = answer(heap, text) else {
-        return NO_MEMORY;
+        return u32::from(Failure::NoMemory);
     };
     let bytes = print.as_bytes();
     *needed = bytes.len();
     if bytes.len() > output.len() {
-        return SHORT_OUTPUT;
+        return u32::from(Failure::ShortOutput);
     }
     output[..bytes.len()].copy_from_slice(bytes);
     0
