@@ -49,7 +49,7 @@ pub struct FrameCounts {
     pub metadata_buffers: u64,
 }
 
-// Records the requests, and writes each answer.
+// Records the requests, and writes each answer. It stands on those before, so that this is no conversion of items.
 #[tactic(auto, unfolding(crate::specs::Frames::answers_told, sheet::specs::Frames::recorded_all))]
 fn put_answers(
     frame: &mut Frame,

@@ -4,6 +4,8 @@ ghost use Rattle.frame_exports.specs.Records.{batch_told, line_of, record_told};
 use batcher::records::{DrawIndirectValidationBatch, IndirectDraw};
 use page::line::DrawLine;
 
+// The three records are what C sees: kinds and counts are numbers there, as include/jorumspit.h has them.
+
 /// An indirect draw that is asked for.
 #[repr(C)]
 #[derive(Clone, Copy)]

@@ -7,6 +7,7 @@ use std::alloc::Global;
 
 /// Prints what a sheet answers. `needed` becomes the length of the print, also where the output is shorter
 /// (status 67) and nothing is written to it. Status 68 for want of memory: nothing is written at all.
+// C sees the status, so that it is a number.
 pub fn jorumspit_sheet(heap: Global, text: &[u8], output: &mut [u8], needed: &mut usize) -> u32
     ensures status { (result ≡ 68) ⊎ (result ≡ (if nat_le (length (printed text.now)) (length output.old) then 0 else 67)) }
     ensures needed { needed.new ≡ (if nat_eq result 68 then needed.old else length (printed text.now)) }
