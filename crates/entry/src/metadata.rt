@@ -3,6 +3,7 @@ ghost use Rattle.entry.specs.Entries.{Recovers, byte_offset, cut, entry_from, en
 
 use command::family::DrawCommandFamily;
 
+// A constant's value cannot call `u64::from`.
 const U32_MAX_AS_U64: u64 = u32::MAX as u64;
 
 /// One entry as the words that the check reads: offsets in words, limits of 33 bits.
@@ -41,6 +42,7 @@ fn split_limit(limit: u64) -> (bool, u32)
     ensures low { result.1 ≡ cut limit % 2 ^ 32 }
 {
     let limit = limit.min(U32_MAX_AS_U64 + U32_MAX_AS_U64);
+    // The mask leaves 32 bits, which the cast is proved to keep: `try_from` would answer an error that there cannot be.
     (limit >> 32 == 1, (limit & U32_MAX_AS_U64) as u32)
 }
 
@@ -99,6 +101,7 @@ impl MetadataEntry {
     }
 
     /// Which sort of draw the entry is of: bit 31 of the first word.
+    // The bit's meaning is said here alone, so that there is no conversion of flags into families.
     fn family(&self) -> DrawCommandFamily
         ensures { result ≡ (unpacked self.now).family }
     {

@@ -34,6 +34,7 @@ impl Arguments {
     }
 
     /// The words in the order in which a draw reads them.
+    // The words are lent, where a conversion would copy them into one of two arrays.
     pub fn words(&self) -> &[u32]
         ensures { result.now ≡ argument_words self.now }
     {

@@ -1,4 +1,1 @@
-pub mod Answering
 pub mod Bounding
-pub mod Filling
-pub mod Placing

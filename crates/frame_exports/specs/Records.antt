@@ -1,7 +1,5 @@
 -- Requests, draws and batches as a host sees them.
-use Rattle.std.specs.Prelude.{ℕ}
-use Rattle.command.specs.declared.family.DrawCommandFamily.{DrawCommandFamily}
-use Rattle.command.specs.declared.family.DrawCommandFamily.TheVariants.{Draw, DrawIndexed}
+use Rattle.command.specs.Family.{kind_of}
 use Rattle.batcher.specs.declared.records.DrawIndirectValidationBatch.{DrawIndirectValidationBatch}
 use Rattle.batcher.specs.declared.records.IndirectDraw.{IndirectDraw}
 use Rattle.page.specs.declared.line.DrawLine.{DrawLine}
@@ -11,10 +9,6 @@ use Rattle.frame_exports.specs.declared.records.Request.{Request}
 
 abbrev pub line_of : Request → DrawLine
 line_of q = record { kind = q.kind; source = q.source; offset = q.offset; first_limit = q.limit; instance_limit = q.instance_limit }
-
-abbrev pub kind_of : DrawCommandFamily → ℕ
-kind_of Draw = 0
-kind_of DrawIndexed = 1
 
 abbrev pub record_told : IndirectDraw → DrawRecord
 record_told d = record {

@@ -3,17 +3,19 @@ ghost use Rattle.batcher.specs.Judged.{terms};
 ghost use Rattle.batcher.specs.View.{batching};
 ghost use Rattle.frame_exports.specs.Frames.{answers_told, answers_written, batches_written, counts_told, draws_written, enough, frame_of, frame_status, lawful_frame, plan_of, plan_status, settings_told};
 ghost use Rattle.frame_exports.specs.Records.{line_of};
+ghost use Rattle.frame_exports.specs.Status.{failure_status};
 ghost use Rattle.sheet.specs.Frames.{recorded_all};
 ghost use Rattle.sheet.specs.View.{recording_of};
 
-use super::records::{BatchRecord, DrawRecord, Request, line_of, put_batches, put_records};
-use super::status::{SHORT_OUTPUT, UNLAWFUL_SIZES};
-use super::subranges::{Place, place_of};
+use super::records::{BatchRecord, DrawRecord, Request, put_each};
+use super::status::Failure;
+use super::subranges::Place;
 use batcher::batcher::DrawBatcher;
 use batcher::records::{DrawIndirectValidationBatch, IndirectDraw};
 use command::refusal::Refusal;
 use command::settings::Settings;
 use command::sizes::Sizes;
+use page::line::DrawLine;
 use places::counted::Counted;
 use plan::frame::FramePlan;
 use sheet::frame::Frame;
@@ -47,7 +49,8 @@ pub struct FrameCounts {
     pub metadata_buffers: u64,
 }
 
-// Records the requests, and writes each answer.
+// Records the requests, and writes each answer. It stands on those before, so that this is no conversion of items.
+#[tactic(auto, unfolding(crate::specs::Frames::answers_told, sheet::specs::Frames::recorded_all))]
 fn put_answers(
     frame: &mut Frame,
     draws: &mut [IndirectDraw],
@@ -61,10 +64,11 @@ fn put_answers(
     ensures after { recording_of frame.new draws.new batches.new ≡ recorded_all (terms frame.old.settings frame.old.sizes) sources.now (recording_of frame.old draws.old batches.old) (map line_of requests.now) }
     ensures sizes { frame.new.sizes ≡ frame.old.sizes }
 {
+    // By index: after a `zip` with `iter_mut` a proof does not know what was written.
     for (i, request) in requests.iter().enumerate() {
-        let line = line_of(request);
+        let line = DrawLine::from(*request);
         let answer = frame.record(draws, batches, sources, &line);
-        answers[i] = place_of(&answer);
+        answers[i] = Place::from(answer);
     }
 }
 
@@ -111,26 +115,22 @@ fn put_plan(
     ensures counts { counts.new ≡ counts_told (batching frame.now.batcher) (plan_of frame.now.sizes.block frame.now.sizes.buffer (recording_of frame.now draw_table.now batch_table.old)) }
 {
     let plan = frame.plan(batch_table);
-    put_records(&draw_table[0..frame.batcher.draws()], draws);
-    put_batches(&batch_table[0..frame.batcher.batches()], batches);
+    put_each(&draw_table[0..frame.batcher.draws()], draws);
+    put_each(&batch_table[0..frame.batcher.batches()], batches);
     *counts = counts_of(&frame.batcher, &plan);
     status_of(&plan)
 }
 
 // The settings and sizes that a frame is planned by, or the status where they are not lawful or outputs are short.
-fn read_settings(settings: &FrameSettings, room: bool) -> Result<(Settings, Sizes), u32>
+fn read_settings(settings: &FrameSettings, room: bool) -> Result<(Settings, Sizes), Failure>
     ensures accepted { is_ok result ≡ (lawful_frame settings.now && room) }
-    ensures value { MatchResult result (λ p. settings_told p.0 p.1 ≡ settings.now) (λ e. ((s : ℕ) → e ≡ frame_status settings.now room s)) }
+    ensures value { MatchResult result (λ p. settings_told p.0 p.1 ≡ settings.now) (λ e. ((s : ℕ) → failure_status e ≡ frame_status settings.now room s)) }
 {
-    let device = match Settings::new(settings.alignment, settings.largest_binding) {
-        Ok(device) => device,
-        Err(refusal) => return Err(refusal.number() as u32),
-    };
-    let Some(sizes) = Sizes::new(settings.buffer_size, settings.block_size) else {
-        return Err(UNLAWFUL_SIZES);
-    };
+    let device = Settings::new(settings.alignment, settings.largest_binding)?;
+    let sizes = Sizes::new(settings.buffer_size, settings.block_size);
+    let sizes = sizes.ok_or(Failure::UnlawfulSizes)?;
     if !room {
-        return Err(SHORT_OUTPUT);
+        return Err(Failure::ShortOutput);
     }
     Ok((device, sizes))
 }
@@ -208,7 +208,7 @@ pub fn jorumspit_frame(
     let room = has_room(requests.len(), answers.len(), draws.len(), batches.len());
     let (device, sizes) = match read_settings(settings, room) {
         Ok(read) => read,
-        Err(status) => return status,
+        Err(failure) => return u32::from(failure),
     };
     put_frame(
         device, sizes, sources, requests, answers, draws, batches, counts,

@@ -2,8 +2,9 @@ ghost use Rattle.std.specs.Prelude.{◌≡◌, ◌≤◌, ◌++◌, map, length,
 ghost use Rattle.frame_exports.specs.Records.{batch_told, line_of, record_told};
 
 use batcher::records::{DrawIndirectValidationBatch, IndirectDraw};
-use command::family::DrawCommandFamily;
 use page::line::DrawLine;
+
+// The three records are what C sees: kinds and counts are numbers there, as include/jorumspit.h has them.
 
 /// An indirect draw that is asked for.
 #[repr(C)]
@@ -49,70 +50,65 @@ pub struct BatchRecord {
     pub metadata_offset: u64,
 }
 
-// A request as a line of a sheet says it.
-pub(crate) fn line_of(request: &Request) -> DrawLine
-    ensures { result ≡ line_of request.now }
-{
-    DrawLine {
-        kind: request.kind,
-        source: request.source,
-        offset: request.offset,
-        first_limit: request.limit,
-        instance_limit: request.instance_limit,
+/// A request as a line of a sheet says it.
+impl From<Request> for DrawLine {
+    ghost from_gives = { λ request line. line ≡ line_of request };
+
+    fn from(request: Request) -> DrawLine {
+        DrawLine {
+            kind: request.kind,
+            source: request.source,
+            offset: request.offset,
+            first_limit: request.limit,
+            instance_limit: request.instance_limit,
+        }
     }
 }
 
-fn record_of(draw: &IndirectDraw) -> DrawRecord
-    ensures { result ≡ record_told draw.now }
-{
-    let kind = match draw.family {
-        DrawCommandFamily::Draw => 0,
-        DrawCommandFamily::DrawIndexed => 1,
-    };
-    DrawRecord {
-        kind,
-        index: draw.place.index as u64,
-        offset: draw.place.offset,
-        batch: draw.batch as u64,
-        rank: draw.rank as u64,
-        src_offset: draw.entry.src_offset,
-        dst_offset: draw.entry.dst_offset,
-        vertex_or_index_limit: draw.entry.vertex_or_index_limit,
-        instance_limit: draw.entry.instance_limit,
+impl From<IndirectDraw> for DrawRecord {
+    ghost from_gives = { λ draw told. told ≡ record_told draw };
+
+    fn from(draw: IndirectDraw) -> DrawRecord {
+        DrawRecord {
+            kind: u64::from(draw.family),
+            index: draw.place.index as u64,
+            offset: draw.place.offset,
+            batch: draw.batch as u64,
+            rank: u64::from(draw.rank),
+            src_offset: draw.entry.src_offset,
+            dst_offset: draw.entry.dst_offset,
+            vertex_or_index_limit: draw.entry.vertex_or_index_limit,
+            instance_limit: draw.entry.instance_limit,
+        }
     }
 }
 
-fn batch_of(batch: &DrawIndirectValidationBatch) -> BatchRecord
-    ensures { result ≡ batch_told batch.now }
-{
-    BatchRecord {
-        source: batch.key.source,
-        window: batch.key.window,
-        destination: batch.key.destination as u64,
-        count: batch.count as u64,
-        staging_block: batch.staging.index as u64,
-        staging_offset: batch.staging.offset,
-        metadata_buffer: batch.metadata.index as u64,
-        metadata_offset: batch.metadata.offset,
+impl From<DrawIndirectValidationBatch> for BatchRecord {
+    ghost from_gives = { λ batch told. told ≡ batch_told batch };
+
+    fn from(batch: DrawIndirectValidationBatch) -> BatchRecord {
+        BatchRecord {
+            source: batch.key.source,
+            window: batch.key.window,
+            destination: batch.key.destination as u64,
+            count: u64::from(batch.count),
+            staging_block: batch.staging.index as u64,
+            staging_offset: batch.staging.offset,
+            metadata_buffer: batch.metadata.index as u64,
+            metadata_offset: batch.metadata.offset,
+        }
     }
 }
 
-// Writes the records of accepted draws, in their order.
-pub(crate) fn put_records(draws: &[IndirectDraw], records: &mut [DrawRecord])
-    requires { length draws.now ≤ length records.old }
-    ensures { records.new ≡ map record_told draws.now ++ drop (length draws.now) records.old }
+/// Writes what each item converts into, in their order, and leaves what follows.
+pub(crate) fn put_each<T: Copy, R: From<T> + Copy>(items: &[T], records: &mut [R])
+    ghost told: { T → R }
+    requires room { length items.now ≤ length records.old }
+    requires converts { (item : T) (made : R) → R.from_gives item made → made ≡ told item }
+    ensures { records.new ≡ map told items.now ++ drop (length items.now) records.old }
 {
-    for (i, draw) in draws.iter().enumerate() {
-        records[i] = record_of(draw);
-    }
-}
-
-// Writes the batches, in their order.
-pub(crate) fn put_batches(batches: &[DrawIndirectValidationBatch], records: &mut [BatchRecord])
-    requires { length batches.now ≤ length records.old }
-    ensures { records.new ≡ map batch_told batches.now ++ drop (length batches.now) records.old }
-{
-    for (i, batch) in batches.iter().enumerate() {
-        records[i] = batch_of(batch);
+    // By index: after a `zip` with `iter_mut` a proof does not know what was written.
+    for (i, item) in items.iter().enumerate() {
+        records[i] = R::from(*item);
     }
 }

@@ -1,24 +1,25 @@
 ghost use Rattle.sheet.specs.Printed.{printed};
 ghost use Rattle.std.specs.Prelude.{◌≡◌, ◌⊎◌, ◌++◌, length, drop, if◌then◌else◌, nat_eq, nat_le};
 
-use super::status::{NO_MEMORY, SHORT_OUTPUT};
+use super::status::Failure;
 use sheet::answer::answer;
 use std::alloc::Global;
 
 /// Prints what a sheet answers. `needed` becomes the length of the print, also where the output is shorter
 /// (status 67) and nothing is written to it. Status 68 for want of memory: nothing is written at all.
+// C sees the status, so that it is a number.
 pub fn jorumspit_sheet(heap: Global, text: &[u8], output: &mut [u8], needed: &mut usize) -> u32
     ensures status { (result ≡ 68) ⊎ (result ≡ (if nat_le (length (printed text.now)) (length output.old) then 0 else 67)) }
     ensures needed { needed.new ≡ (if nat_eq result 68 then needed.old else length (printed text.now)) }
     ensures written { output.new ≡ (if nat_eq result 0 then printed text.now ++ drop (length (printed text.now)) output.old else output.old) }
 {
     let Ok(print) = answer(heap, text) else {
-        return NO_MEMORY;
+        return u32::from(Failure::NoMemory);
     };
     let bytes = print.as_bytes();
     *needed = bytes.len();
     if bytes.len() > output.len() {
-        return SHORT_OUTPUT;
+        return u32::from(Failure::ShortOutput);
     }
     output[..bytes.len()].copy_from_slice(bytes);
     0

@@ -1,10 +1,40 @@
-// What a call answers where it is neither accepted, which is 0, nor refused, which is the refusal's number.
+ghost use Rattle.frame_exports.specs.Status.{failure_status};
+ghost use Rattle.frame_exports.specs.declared.status.Failure.TheVariants.{Refused};
+ghost use Rattle.std.specs.Prelude.{◌≡◌};
 
-/// The sizes of pool buffers and staging blocks are not lawful.
-pub const UNLAWFUL_SIZES: u32 = 66;
+use command::refusal::Refusal;
 
-/// An output is too short for what there is to write.
-pub const SHORT_OUTPUT: u32 = 67;
+/// Why a call is not carried out.
+#[derive(Clone, Copy)]
+pub enum Failure {
+    /// The library refuses it.
+    Refused(Refusal),
+    /// The sizes of pool buffers and staging blocks are not lawful.
+    UnlawfulSizes,
+    /// An output is too short for what there is to write.
+    ShortOutput,
+    /// There is too little memory for the work.
+    NoMemory,
+}
 
-/// There is too little memory for the work.
-pub const NO_MEMORY: u32 = 68;
+impl From<Refusal> for Failure {
+    ghost from_gives = { λ refusal failure. failure ≡ Refused refusal };
+
+    fn from(refusal: Refusal) -> Failure {
+        Failure::Refused(refusal)
+    }
+}
+
+/// The status that a call answers: the refusal's number, or one that no refusal has.
+impl From<Failure> for u32 {
+    ghost from_gives = { λ failure status. status ≡ failure_status failure };
+
+    fn from(failure: Failure) -> u32 {
+        match failure {
+            Failure::Refused(reason) => u32::from(reason.number()),
+            Failure::UnlawfulSizes => 66,
+            Failure::ShortOutput => 67,
+            Failure::NoMemory => 68,
+        }
+    }
+}

@@ -45,6 +45,7 @@ pub struct Rules {
 /// An indirect draw as it is asked for.
 #[derive(Clone, Copy)]
 pub struct Request<'a> {
+    // A number, since any may be asked for: which are kinds is judged after what is bound.
     pub kind: u64,
     pub source: Source<'a>,
     /// The byte of the source at which its arguments begin.
