@@ -32,12 +32,20 @@ abbrev pub raw_of : Step → Option RawStep
 raw_of s = cond (s.present == 0) None (Some (record { stride = s.stride; last_stride = s.last_stride; mode = s.mode }))
 
 -- no steps are set where there is no pipeline
-abbrev pub pipeline_bound : ℕ → List (Option RawStep) → Bound → Result Bound Refusal
-pipeline_bound pipeline raws b = cond (pipeline == 0) (Ok b) (through (steps_answer raws) (after_steps b raws))
+abbrev pub steps_bound : Option (List Step) → Bound → Result Bound Refusal
+steps_bound None b = Ok b
+steps_bound (Some steps) b = through (steps_answer (map raw_of steps)) (after_steps b (map raw_of steps))
 
 -- what is bound after the slots and the steps
+abbrev pub host_bound : List Slot → Option (List Step) → Result Bound Refusal
+host_bound slots steps = and_then (slots_bound 0 slots unbound) (steps_bound steps)
+
+-- there is no pipeline where its flag is 0
+abbrev pub pipeline_steps : ℕ → List Step → Option (List Step)
+pipeline_steps pipeline steps = cond (pipeline == 0) None (Some steps)
+
 abbrev pub slots_and_steps : List Slot → ℕ → List Step → Result Bound Refusal
-slots_and_steps slots pipeline steps = and_then (slots_bound 0 slots unbound) (pipeline_bound pipeline (map raw_of steps))
+slots_and_steps slots pipeline steps = host_bound slots (pipeline_steps pipeline steps)
 
 -- an index range that may be absent
 abbrev pub index_bound : Index → Bound → Result Bound Refusal

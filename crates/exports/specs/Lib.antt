@@ -1,4 +1,5 @@
 pub mod Bound
 pub mod Entries
 pub mod Limits
+pub mod Status
 pub mod Windows

@@ -1,6 +1,7 @@
 -- What a host is told of the limits and of a direct draw.
 use Rattle.std.specs.Prelude.{ℕ, Bool, cond, Some, None, Ok, Err, Option, Result}
 use Rattle.command.specs.Refusals.{number_of, report_of}
+use Rattle.command.specs.declared.args.DrawArgs.{DrawArgs}
 use Rattle.command.specs.declared.refusal.Beyond.{Beyond}
 use Rattle.command.specs.declared.refusal.Refusal.{Refusal}
 use Rattle.command.specs.declared.refusal.Report as refusal
@@ -50,5 +51,8 @@ abbrev pub draw_written : Result Bool Refusal → Report
 draw_written (Ok any) = record { draws = cond any 1 0; last = 0; limit = 0; slot = 0 }
 draw_written (Err e) = refusal_told (report_of e)
 
+abbrev pub args_of : Draw → DrawArgs
+args_of d = record { count = d.count; instances = d.instances; first = d.first; first_instance = d.first_instance }
+
 abbrev pub draw_judged : Result Bound Refusal → Draw → Result Bool Refusal
-draw_judged bound d = and_then bound (λ b. draw_answer b d.kind d.count d.instances d.first d.first_instance)
+draw_judged bound d = and_then bound (λ b. draw_answer b d.kind (args_of d))

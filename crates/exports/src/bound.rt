@@ -1,13 +1,16 @@
-ghost use Rattle.exports.specs.Bound.{bindings_of, index_bound, raw_of, slot_after, slot_asked, slots_and_steps, slots_bound, through};
+ghost use Rattle.exports.specs.Bound.{bindings_of, host_bound, index_bound, raw_of, slot_after, slot_asked, slots_bound, through};
 ghost use Rattle.render.specs.Bound.{bound};
 ghost use Rattle.render.specs.Requests.{after_steps, steps_answer};
 ghost use Rattle.std.specs.Prelude.{◌≡◌, map};
+ghost use Rattle.std.specs.Option.{option_copied};
 
+use arrayvec::ArrayVec;
 use command::refusal::Refusal;
 use render::bindings::Bindings;
 use render::steps::{MAX_VERTEX_BUFFERS, RawStep};
 
 /// The range that indexed draws take their indices from, in bytes.
+// An Option has no layout that C knows: a flag says whether there is a range.
 #[repr(C)]
 #[derive(Clone, Copy)]
 pub struct Index {
@@ -20,6 +23,7 @@ pub struct Index {
 }
 
 /// The range of a vertex buffer slot, in bytes.
+// A flag in place of an Option, as in `Index`.
 #[repr(C)]
 #[derive(Clone, Copy)]
 pub struct Slot {
@@ -30,6 +34,7 @@ pub struct Slot {
 }
 
 /// How a pipeline reads the slot of the same number, in bytes.
+// A flag in place of an Option, as in `Index`, and a mode that a host may have wrong.
 #[repr(C)]
 #[derive(Clone, Copy)]
 pub struct Step {
@@ -41,39 +46,42 @@ pub struct Step {
     pub mode: u64,
 }
 
-// Binds or empties one slot.
-fn bind_slot(bindings: &mut Bindings, number: usize, slot: &Slot) -> Result<(), Refusal>
+// A step as the bindings take it.
+impl From<Step> for Option<RawStep> {
+    ghost from_gives = { λ step raw. raw ≡ raw_of step };
+
+    fn from(step: Step) -> Option<RawStep> {
+        if step.present == 0 {
+            return None;
+        }
+        Some(RawStep {
+            stride: step.stride,
+            last_stride: step.last_stride,
+            mode: step.mode,
+        })
+    }
+}
+
+// Binds or empties one slot, as its flag asks.
+fn bind_slot(bindings: &mut Bindings, number: u64, slot: &Slot) -> Result<(), Refusal>
     ensures answer { result ≡ slot_asked number slot.now }
     ensures after { bound bindings.new ≡ slot_after number slot.now (bound bindings.old) }
 {
     if slot.present == 0 {
-        return bindings.clear_slot(number as u64);
+        return bindings.clear_slot(number);
     }
-    bindings.set_slot(number as u64, slot.start, slot.end)
+    bindings.set_slot(number, slot.start, slot.end)
 }
 
 // Binds the slots from the first on.
+#[tactic(auto, using(crate::proofs::Binding::slots_more, crate::proofs::Binding::slots_all))]
 fn bind_slots(bindings: &mut Bindings, slots: &[Slot]) -> Result<(), Refusal>
     ensures { through result (bound bindings.new) ≡ slots_bound 0 slots.now (bound bindings.old) }
 {
     for (number, slot) in slots.iter().enumerate() {
-        bind_slot(bindings, number, slot)?;
+        bind_slot(bindings, number as u64, slot)?;
     }
     Ok(())
-}
-
-// A step as the bindings take it.
-fn raw_step(step: &Step) -> Option<RawStep>
-    ensures { result ≡ raw_of step.now }
-{
-    if step.present == 0 {
-        return None;
-    }
-    Some(RawStep {
-        stride: step.stride,
-        last_stride: step.last_stride,
-        mode: step.mode,
-    })
 }
 
 // Sets the steps of a pipeline.
@@ -84,20 +92,20 @@ fn bind_steps(bindings: &mut Bindings, steps: &[Step]) -> Result<(), Refusal>
     if steps.len() > MAX_VERTEX_BUFFERS {
         return Err(Refusal::NoSuchSlot);
     }
-    let mut raw: [Option<RawStep>; MAX_VERTEX_BUFFERS] = [None; MAX_VERTEX_BUFFERS];
-    for (i, step) in steps.iter().enumerate() {
-        raw[i] = raw_step(step);
+    let mut raw: ArrayVec<Option<RawStep>, MAX_VERTEX_BUFFERS> = ArrayVec::new();
+    for step in steps {
+        raw.push(Option::from(*step));
     }
-    bindings.set_steps(&raw[..steps.len()])
+    bindings.set_steps(raw.as_slice())
 }
 
 // What is bound after the slots and, where there is a pipeline, its steps.
-pub(crate) fn bind(slots: &[Slot], pipeline: u64, steps: &[Step]) -> Result<Bindings, Refusal>
-    ensures { bindings_of result ≡ slots_and_steps slots.now pipeline steps.now }
+pub(crate) fn bind(slots: &[Slot], steps: Option<&[Step]>) -> Result<Bindings, Refusal>
+    ensures { bindings_of result ≡ host_bound slots.now (option_copied steps.entry) }
 {
     let mut bindings = Bindings::new();
     bind_slots(&mut bindings, slots)?;
-    if pipeline != 0 {
+    if let Some(steps) = steps {
         bind_steps(&mut bindings, steps)?;
     }
     Ok(bindings)

@@ -1,12 +1,19 @@
+ghost use Rattle.command.specs.Checks.{and_then};
 ghost use Rattle.command.specs.Refusals.{report_of};
-ghost use Rattle.exports.specs.Bound.{all_bound, bindings_of, index_bound, slots_and_steps};
-ghost use Rattle.exports.specs.Limits.{draw_judged, draw_written, index_written, limits_written, refusal_told, result_status};
-ghost use Rattle.render.specs.Bound.{unbound};
+ghost use Rattle.exports.specs.Bound.{all_bound, host_bound, index_bound, pipeline_steps, slots_and_steps};
+ghost use Rattle.exports.specs.Limits.{args_of, draw_judged, draw_written, index_written, limits_told, limits_written, refusal_told, result_status};
+ghost use Rattle.exports.specs.Status.{refused};
+ghost use Rattle.render.specs.Bound.{Bound, unbound};
+ghost use Rattle.render.specs.Limits.{index_limit_of, limits_of};
+ghost use Rattle.std.specs.Option.{option_copied};
 ghost use Rattle.std.specs.Prelude.{◌≡◌};
 
 use super::bound::{Index, Slot, Step, bind, bind_index};
+use super::status::{Failure, give};
+use command::args::DrawArgs;
 use command::refusal::Refusal;
 use render::bindings::Bindings;
+use render::limits::VertexLimits;
 
 /// How many vertices and instances are bound, and which slot has the least of each.
 #[repr(C)]
@@ -18,7 +25,21 @@ pub struct Limits {
     pub instance_limit_slot: u64,
 }
 
+impl From<VertexLimits> for Limits {
+    ghost from_gives = { λ found limits. limits ≡ limits_told found };
+
+    fn from(found: VertexLimits) -> Limits {
+        Limits {
+            vertex_limit: found.vertex_limit,
+            vertex_limit_slot: u64::from(found.vertex_limit_slot),
+            instance_limit: found.instance_limit,
+            instance_limit_slot: u64::from(found.instance_limit_slot),
+        }
+    }
+}
+
 /// A direct draw.
+// A kind is a number here, since a host may name one that there is not.
 #[repr(C)]
 #[derive(Clone, Copy)]
 pub struct Draw {
@@ -30,9 +51,23 @@ pub struct Draw {
     pub first_instance: u32,
 }
 
+impl From<Draw> for DrawArgs {
+    ghost from_gives = { λ draw args. args ≡ args_of draw };
+
+    fn from(draw: Draw) -> DrawArgs {
+        DrawArgs {
+            count: draw.count,
+            instances: draw.instances,
+            first: draw.first,
+            first_instance: draw.first_instance,
+        }
+    }
+}
+
 /// What is said of a direct draw beside its status.
+// A flag and numbers that are 0 where there are none, since an Option has no layout that C knows.
 #[repr(C)]
-#[derive(Clone, Copy)]
+#[derive(Clone, Copy, Default)]
 pub struct Report {
     /// 1 where the draw was accepted and both of its counts are above 0.
     pub draws: u64,
@@ -44,24 +79,54 @@ pub struct Report {
     pub slot: u64,
 }
 
+/// The values of a refusal, 0 for those that it has not.
+impl From<Refusal> for Report {
+    ghost from_gives = { λ refusal report. report ≡ refusal_told (report_of refusal) };
+
+    fn from(refusal: Refusal) -> Report {
+        let values = refusal.report();
+        let (last, limit) = values
+            .beyond
+            .map_or((0, 0), |beyond| (beyond.last, beyond.limit));
+        Report {
+            draws: 0,
+            last,
+            limit,
+            slot: values.slot.map_or(0, u64::from),
+        }
+    }
+}
+
+// The steps, where there is a pipeline: C has a flag for it.
+fn steps_of(pipeline: u64, steps: &[Step]) -> Option<&[Step]>
+    ensures { option_copied result ≡ pipeline_steps pipeline steps.now }
+{
+    (pipeline != 0).then_some(steps)
+}
+
+// The limits of what is bound.
+fn find_limits(slots: &[Slot], steps: Option<&[Step]>) -> Result<Limits, Failure>
+    ensures { result ≡ refused (λ b. limits_told (limits_of b)) (host_bound slots.now (option_copied steps.entry)) }
+{
+    let bindings = bind(slots, steps)?;
+    Ok(Limits::from(bindings.limits()))
+}
+
 /// The limits of a pipeline's steps over the slots; all 0 where there is no pipeline.
 pub fn jorumspit_limits(slots: &[Slot], pipeline: u64, steps: &[Step], limits: &mut Limits) -> u32
     ensures status { result ≡ result_status (slots_and_steps slots.now pipeline steps.now) }
     ensures written { limits.new ≡ limits_written (slots_and_steps slots.now pipeline steps.now) limits.old }
 {
-    match bind(slots, pipeline, steps) {
-        Ok(bindings) => {
-            let found = bindings.limits();
-            *limits = Limits {
-                vertex_limit: found.vertex_limit,
-                vertex_limit_slot: found.vertex_limit_slot as u64,
-                instance_limit: found.instance_limit,
-                instance_limit_slot: found.instance_limit_slot as u64,
-            };
-            0
-        }
-        Err(refusal) => refusal.number() as u32,
-    }
+    give(find_limits(slots, steps_of(pipeline, steps)), limits)
+}
+
+// How many indices the range has.
+fn find_index_limit(index: &Index) -> Result<u64, Failure>
+    ensures { result ≡ refused index_limit_of (index_bound index.now unbound) }
+{
+    let mut bindings = Bindings::new();
+    bind_index(&mut bindings, index)?;
+    Ok(bindings.index_limit())
 }
 
 /// How many indices of `bytes` a range has; 0 where none is bound.
@@ -69,69 +134,21 @@ pub fn jorumspit_index_limit(index: &Index, limit: &mut u64) -> u32
     ensures status { result ≡ result_status (index_bound index.now unbound) }
     ensures written { limit.new ≡ index_written (index_bound index.now unbound) limit.old }
 {
-    let mut bindings = Bindings::new();
-    match bind_index(&mut bindings, index) {
-        Ok(()) => {
-            *limit = bindings.index_limit();
-            0
-        }
-        Err(refusal) => refusal.number() as u32,
-    }
+    give(find_index_limit(index), limit)
 }
 
-// What is bound: slots, then steps, then the index range.
-fn bind_all(
-    slots: &[Slot],
-    pipeline: u64,
-    steps: &[Step],
-    index: &Index,
-) -> Result<Bindings, Refusal>
-    ensures { bindings_of result ≡ all_bound slots.now pipeline steps.now index.now }
-{
-    let mut bindings = bind(slots, pipeline, steps)?;
-    bind_index(&mut bindings, index)?;
-    Ok(bindings)
-}
-
-// Judges a draw over what is bound.
+// Judges a draw over what is bound: slots, then steps, then the index range.
 fn judge(
     slots: &[Slot],
-    pipeline: u64,
-    steps: &[Step],
+    steps: Option<&[Step]>,
     index: &Index,
     draw: &Draw,
 ) -> Result<bool, Refusal>
-    ensures { result ≡ draw_judged (all_bound slots.now pipeline steps.now index.now) draw.now }
+    ensures { result ≡ draw_judged (and_then (host_bound slots.now (option_copied steps.entry)) (index_bound index.now)) draw.now }
 {
-    let bindings = bind_all(slots, pipeline, steps, index)?;
-    bindings.check_draw(
-        draw.kind,
-        draw.count,
-        draw.instances,
-        draw.first,
-        draw.first_instance,
-    )
-}
-
-// The values of a refusal, 0 for those that it has not.
-fn report_of(refusal: &Refusal) -> Report
-    ensures { result ≡ refusal_told (report_of refusal.now) }
-{
-    let values = refusal.report();
-    let (last, limit) = match values.beyond {
-        Some(beyond) => (beyond.last, beyond.limit),
-        None => (0, 0),
-    };
-    let slot = match values.slot {
-        Some(slot) => slot as u64,
-        None => 0,
-    };
-    Report {
-        draws: 0,
-        last,
-        limit,
-        slot,
-    }
+    let mut bindings = bind(slots, steps)?;
+    bind_index(&mut bindings, index)?;
+    bindings.check_draw(draw.kind, DrawArgs::from(*draw))
 }
 
 /// Judges a direct draw over what is bound. The report is written whatever the status is.
@@ -146,19 +163,17 @@ pub fn jorumspit_draw(
     ensures status { result ≡ result_status (draw_judged (all_bound slots.now pipeline steps.now index.now) draw.now) }
     ensures written { report.new ≡ draw_written (draw_judged (all_bound slots.now pipeline steps.now index.now) draw.now) }
 {
-    match judge(slots, pipeline, steps, index, draw) {
+    match judge(slots, steps_of(pipeline, steps), index, draw) {
         Ok(any) => {
             *report = Report {
-                draws: any as u64,
-                last: 0,
-                limit: 0,
-                slot: 0,
+                draws: u64::from(any),
+                ..Report::default()
             };
             0
         }
         Err(refusal) => {
-            *report = report_of(&refusal);
-            refusal.number() as u32
+            *report = Report::from(refusal);
+            Failure::from(refusal).status()
         }
     }
 }

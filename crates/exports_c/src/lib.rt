@@ -1,5 +1,6 @@
 // What a host in C links for windows, entries, limits and direct draws: each function is the one of the same
-// name in exports, under the same clauses. include/jorumspit.h declares them.
+// name in exports, under the same clauses: a crate is a library or a static library, not both, and C calls by name.
+// include/jorumspit.h declares them.
 #![tactic(auto)]
 
 pub mod entries;

@@ -43,6 +43,7 @@ fn validate_draw(
     Ok(args.count > 0 && args.instances > 0)
 }
 
+// A kind is any number here, as in `is_ready`.
 impl Bindings {
     /// The limits of a draw of this kind, or why none can be asked for.
     /// A draw is within them exactly where the ranges that are bound carry it.

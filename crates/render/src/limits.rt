@@ -11,6 +11,7 @@ use command::refusal::{Beyond, Refusal};
 
 /// How many vertices and instances the vertex buffers have, and which slot has the least.
 /// By default nothing can be drawn.
+// A limit and its slot are two fields each, as in wgpu-core.
 #[derive(Clone, Copy, Default)]
 pub struct VertexLimits {
     /// Length of the shortest vertex rate vertex buffer

@@ -19,6 +19,7 @@ fn buffers_bound(slots: &[VertexSlot; MAX_VERTEX_BUFFERS], steps: &[Option<Verte
         .all(|(slot, step)| step.is_none() || slot.range.is_some())
 }
 
+// A caller may write any number for a kind: whether there is such a kind is judged last.
 impl Bindings {
     /// Whether a draw of this kind can be asked for with what is bound, and its family:
     /// steps are judged first, then their slots, then the index binding, then the kind.

@@ -35,6 +35,7 @@ fn read_step(raw: Option<RawStep>) -> Result<Option<VertexStep>, Refusal>
 }
 
 /// All of a pipeline's steps, or refusal 3 where one is malformed.
+#[tactic(auto, using(std::proofs::lemmas::List::Folds::list_all_at))]
 fn read_steps(raw: &[Option<RawStep>]) -> Result<PipelineSteps, Refusal>
     requires { length raw.now ≤ 16 }
     ensures { MatchResult result (λ steps. (well_formed raw.now ≡ true) × (steps.items ≡ step_list raw.now)) (λ e. (e ≡ Refusal.MalformedBinding) × (well_formed raw.now ≡ false)) }
@@ -46,6 +47,7 @@ fn read_steps(raw: &[Option<RawStep>]) -> Result<PipelineSteps, Refusal>
     Ok(steps)
 }
 
+// A caller may write any number for a slot, an end or the bytes of an index: each is judged here.
 impl Bindings {
     /// Binds a range to a slot.
     pub fn set_slot(&mut self, slot: u64, start: u64, end: u64) -> Result<(), Refusal>

@@ -1,6 +1,10 @@
-use Rattle.std.proofs.Common.{◌≡◌, map, length, take}
+use Rattle.std.proofs.Common.{◌≡◌, map, take}
+use Rattle.arrayvec.specs.ArrayVec.{array_vec_len}
 use Rattle.exports.specs.Bound.{raw_of}
 use Rattle.exports.proofs.bound.bind_steps.Given as goal
 
-abbrev pub invariant-loop-i : goal.invariant-loop-i
-invariant-loop-i l = (take l.i l.raw ≡ map raw_of (take l.i l.steps)) × (length l.raw ≡ 16)
+abbrev pub invariant-loop-step : goal.invariant-loop-step
+invariant-loop-step l = record {
+  raw : l.raw.items ≡ map raw_of (take l.step-index l.steps);
+  len : array_vec_len l.raw ≡ l.step-index;
+}
