@@ -66,16 +66,18 @@ fields_one bs h = alone (fields_of bs) h (join_with_byte-slice_split 44 bs)
     alone (f ∷ []) k e = ap (λ l. l ∷ []) e
     alone (f ∷ g ∷ fs) k e = absurd (omega arith)
 
+-- f of a value is there, so the value is
+pub some_of : {A B : Type 0} (f : A → Option B) (o : Option A) (y : B) → and_then o f ≡ Some y → (a : A) × (o ≡ Some a) × (f a ≡ Some y)
+some_of f None y e = cc
+some_of f (Some a) y e = (a, refl, e)
+
 pub length_all : (fs : List (List ℕ)) (ns : List ℕ) → all_numbers fs ≡ Some ns → length ns ≡ length fs
 length_all [] ns e = let z : ns ≡ [] = cc in ap length z
 length_all (f ∷ fs) ns e =
-    (elim (number_of f) as (λ o. and_then o (λ n. before n (all_numbers fs)) ≡ Some ns → length ns ≡ suc (length fs)) [
-      | None ↦ λ k. cc
-      | Some n ↦ λ k. (elim (all_numbers fs) as (λ o. ((ms : List ℕ) → o ≡ Some ms → length ms ≡ length fs) → before n o ≡ Some ns → length ns ≡ suc (length fs)) [
-        | None ↦ λ _ j. cc
-        | Some ms ↦ λ ih j. let z : ns ≡ n ∷ ms = cc in ap length z ∙ ap suc (ih ms refl)
-      ]) (length_all fs) k
-    ]) e
+    let p = some_of (λ n. before n (all_numbers fs)) (number_of f) ns e in
+    let q = some_of (λ ms. Some (p.0 ∷ ms)) (all_numbers fs) ns p.2 in
+    let z : ns ≡ p.0 ∷ q.0 = cc q.2 in
+    ap length z ∙ ap suc (length_all fs q.0 q.1)
 
 -- where a text is no number, it is not just one number
 pub number_none : (bs : List ℕ) → None ≡ number_of bs → (ns : List ℕ) → numbers_of bs ≡ Some ns → length ns ≡ 1 → ⊥
@@ -83,8 +85,7 @@ unfolding numbers_of
 number_none bs e ns h l =
     let one : fields_of bs ≡ bs ∷ [] = fields_one bs (sym (length_all (fields_of bs) ns h) ∙ l) in
     let none : numbers_of bs ≡ None = ap all_numbers one ∙ ap (λ (o : Option ℕ). and_then o alone) (sym e) in
-    let z : ◌≡◌ {A = ℕ} 0 1 = cc in
-    omega arith
+    cc (h, none)
 
 module _ (a b d e : ℕ) where
   abbrev pub four : Option (List ℕ) → Option (List ℕ)

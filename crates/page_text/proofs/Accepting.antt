@@ -67,27 +67,24 @@ keeps Draws (Draw d) p k =
 abbrev Has : List (Option Line) → Sheet → Type 0
 Has os q = (os ≡ map Some (sheet_lines q)) × (0 < length q.sources) × (length q.sources ≤ 64)
 
-never : (n : ℕ) (q : Sheet) (os : List (Option Line)) → bad n ≡ good q → Has os q
-never n q os e = cc
-
 ended : (s : Stage) (n : ℕ) (p q : Sheet) → Kept s p → cond (may_end s) (good p) (bad n) ≡ good q → Has (map Some (so_far s p) ++ []) q
-ended Start n p q k e = never n q _ e
-ended Aligned n p q k e = never n q _ e
+ended Start n p q k e = cc
+ended Aligned n p q k e = cc
 ended (Sources c) n p q k e =
     (cond_both (ltb 0 c) (good p) (bad n) (λ r. r ≡ good q → Has (map Some (so_far (Sources c) p) ++ []) q)
     (λ t f. let z : p ≡ q = cc in
     let g : map Some (so_far (Sources c) p) ++ [] ≡ map Some (sheet_lines p) = append-nil (map Some (so_far (Sources c) p)) ∙ sym (ap (λ (l : List DrawLine). map Some (Align p.align ∷ Binding p.binding ∷ (map Source p.sources ++ map Draw l))) k.2 ∙ ap (λ (l : List Line). map Some (Align p.align ∷ Binding p.binding ∷ l)) (append-nil (map Source p.sources))) in
     subst (Has (map Some (so_far (Sources c) p) ++ [])) z (g, omega (arith, ltb-true 0 c t, k.0), omega (arith, k.0, k.1)))
-    (λ _ f. never n q _ f)) e
+    (λ _ f. cc)) e
 ended Draws n p q k e = let z : p ≡ q = cc in subst (Has (map Some (so_far Draws p) ++ [])) z (append-nil _, k.0, k.1)
 
 accepts : (os : List (Option Line)) (s : Stage) (n : ℕ) (p q : Sheet) → Kept s p → read_on os s n p ≡ good q → Has (map Some (so_far s p) ++ os) q
 unfolding read_on
 accepts [] s n p q k e = ended s n p q k e
-accepts (None ∷ os) s n p q k e = never n q _ e
+accepts (None ∷ os) s n p q k e = cc
 accepts (Some x ∷ os) s n p q k e =
     (elim (next_of s x) as (λ o. KeptAt o s p x → elim o as (λ _. Parsed) [ None ↦ bad n | Some t ↦ read_on os t (n + 1) (added p x) ] ≡ good q → Has (map Some (so_far s p) ++ (Some x ∷ os)) q) [
-      | None ↦ λ _ f. never n q _ f
+      | None ↦ λ _ f. cc
       | Some t ↦ λ w f.
           let g : map Some (so_far t (added p x)) ++ os ≡ map Some (so_far s p) ++ (Some x ∷ os) = ap (λ (l : List Line). map Some l ++ os) w.1 ∙ ap (λ (l : List (Option Line)). l ++ os) (map_push Some (so_far s p) x) ∙ append_assoc (map Some (so_far s p)) (Some x ∷ []) os in
           subst (λ (l : List (Option Line)). Has l q) g (accepts os t (n + 1) (added p x) q w.0 f)
@@ -117,15 +114,11 @@ each_line (l ∷ ls) (x ∷ xs) e =
     let k = each_line ls xs t in
     ((spelt_fits l x s, k.0), omega (arith, length-append (line_text x) (10 ∷ lines_text xs), spelt_size l x s, k.1))
 
-pub not_long : (text : List ℕ) (p : Sheet) → read_page text ≡ good p → read_lines (lines_of text) ≡ good p
+-- a text that is read is not too long
+pub not_long : (text : List ℕ) (p : Sheet) → read_page text ≡ good p → (length text ≤ 65536) × (read_lines (lines_of text) ≡ good p)
 not_long text p e =
-    (cond_both (ltb 65536 (length text)) (bad 0) (read_lines (lines_of text)) (λ r. r ≡ good p → read_lines (lines_of text) ≡ good p)
-    (λ _ f. cc) (λ _ f. f)) e
-
-within : (text : List ℕ) (p : Sheet) → read_page text ≡ good p → length text ≤ 65536
-within text p e =
-    (cond_both (ltb 65536 (length text)) (bad 0) (read_lines (lines_of text)) (λ r. r ≡ good p → length text ≤ 65536)
-    (λ _ f. cc) (λ t _. ltb-false 65536 (length text) t)) e
+    (cond_both (ltb 65536 (length text)) (bad 0) (read_lines (lines_of text)) (λ r. r ≡ good p → (length text ≤ 65536) × (read_lines (lines_of text) ≡ good p))
+    (λ _ f. cc) (λ t f. (ltb-false 65536 (length text) t, f))) e
 
 -- the lines of a sheet after its first
 abbrev tails : Sheet → List Line
@@ -146,8 +139,9 @@ plain_read text p h f e =
 
 pub spells : (text : List ℕ) (p : Sheet) → read_page text ≡ good p → Spells text p
 spells text p e =
-    let h = accepts (map line_of (lines_of text)) Start 1 empty p (refl, refl) (not_long text p e) in
+    let s = not_long text p e in
+    let h = accepts (map line_of (lines_of text)) Start 1 empty p (refl, refl) s.1 in
     let k = each_line (lines_of text) (sheet_lines p) h.0 in
     let f : Fits p = record { numbers = k.0; some = h.1; most = h.2 } in
     let u = unpadded_text text (sheet_lines p) h.0 in
-    record { fits = f; lines = h.0; same = u; plain = plain_read text p (within text p e) f u; size = omega (arith, k.1, total_lines text); again = read_written p f }
+    record { fits = f; lines = h.0; same = u; plain = plain_read text p s.0 f u; size = omega (arith, k.1, total_lines text); again = read_written p f }

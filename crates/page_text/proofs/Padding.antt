@@ -14,8 +14,8 @@ use Rattle.page.specs.Lines.{before, all_numbers, numbers_of, line_of}
 use Rattle.page.specs.Written.{line_text, lines_text}
 use Rattle.page_text.specs.Laws.{starts_digit, bare, unpadded}
 use Rattle.page_text.proofs.Ending.{ended}
-use Rattle.page.proofs.Fields.{length_all}
-use Rattle.page_text.proofs.Spelling.{Numeral, numeral, some_of, five, Spelt, spelt}
+use Rattle.page.proofs.Fields.{length_all, some_of}
+use Rattle.page_text.proofs.Spelling.{Numeral, numeral, five, Spelt, spelt}
 use Rattle.page_text.proofs.Returning.{own}
 
 -- a byte stays, unless it is a zero that leads
@@ -32,7 +32,7 @@ bare_out : (rest : List ℕ) → starts_digit rest ≡ false → bare true rest 
 unfolding bare
 bare_out [] e = refl
 bare_out (c ∷ cs) e =
-    let n : eqb c 48 ≡ false = ne_eqb c 48 (λ z. let d : is_digit 48 ≡ false = ap is_digit (sym z) ∙ e in let y : ◌≡◌ {A = ℕ} 0 1 = cc in omega arith) in
+    let n : eqb c 48 ≡ false = ne_eqb c 48 (λ z. let d : is_digit 48 ≡ false = ap is_digit (sym z) ∙ e in cc) in
     stays true c cs refl ∙ sym (stays false c cs (ap (λ (t : Bool). t && starts_digit cs) n))
 
 -- digits inside a number stay

@@ -14,6 +14,7 @@ use Rattle.std.proofs.lemmas.List.Splits.{length-slice_split}
 use Rattle.std.specs.List.{onto_first}
 use Rattle.page.specs.Lines.{and_then, before, all_numbers, numbers_of, draw_of, source_of, line_of, align_kind, binding_kind, source_kind, draw_kind}
 use Rattle.page.specs.Written.{line_text}
+use Rattle.page.proofs.Fields.{some_of}
 use Rattle.page_text.specs.Written.{LineFits}
 use Rattle.page_text.proofs.Returning.{own}
 
@@ -53,11 +54,6 @@ total_fields (c ∷ cs) =
     let h = total_fields cs in
     let some : 0 < length (fields_of cs) = omega (arith, length-slice_split (λ c. eqb c 44) cs) in
     cond_both (eqb c 44) ([] ∷ fields_of cs) (onto_first c (fields_of cs)) (λ l. total l ≡ suc (length cs) + 1) (λ _. omega arith) (λ _. omega (arith, total_first c (fields_of cs) some))
-
--- f of a value is there, so the value is
-pub some_of : {A B : Type 0} (f : A → Option B) (o : Option A) (y : B) → and_then o f ≡ Some y → (a : A) × (o ≡ Some a) × (f a ≡ Some y)
-some_of f None y e = cc
-some_of f (Some a) y e = (a, refl, e)
 
 all_sized : (fs : List (List ℕ)) (ns : List ℕ) → all_numbers fs ≡ Some ns → AllByRecursion (λ n. n < 2 ^ 64) ns × (weight ns ≤ total fs)
 all_sized [] ns e = let z : ns ≡ [] = cc in rw z (tt, omega arith)
@@ -99,11 +95,11 @@ five_long : (ns : List ℕ) (d : DrawLine) → draw_of ns ≡ Some d → length 
 five_long ns d e = grind (arith, nat_tests)
 
 five_of : (ns : List ℕ) (d : DrawLine) → draw_of ns ≡ Some d → ns ≡ five d
-five_of [] d e = absurd (omega (arith, five_long [] d e))
-five_of (a ∷ []) d e = absurd (omega (arith, five_long (a ∷ []) d e))
-five_of (a ∷ b ∷ []) d e = absurd (omega (arith, five_long (a ∷ b ∷ []) d e))
-five_of (a ∷ b ∷ c ∷ []) d e = absurd (omega (arith, five_long (a ∷ b ∷ c ∷ []) d e))
-five_of (a ∷ b ∷ c ∷ f ∷ []) d e = absurd (omega (arith, five_long (a ∷ b ∷ c ∷ f ∷ []) d e))
+five_of [] d e = cc
+five_of (a ∷ []) d e = cc
+five_of (a ∷ b ∷ []) d e = cc
+five_of (a ∷ b ∷ c ∷ []) d e = cc
+five_of (a ∷ b ∷ c ∷ f ∷ []) d e = cc
 five_of (a ∷ b ∷ c ∷ f ∷ g ∷ []) d e =
     let z : ◌≡◌ {A = DrawLine} (record { kind = a; source = b; offset = c; first_limit = f; instance_limit = g }) d = cc in
     ap five z

@@ -18,7 +18,8 @@ use Rattle.page.specs.Written.{line_text}
 use Rattle.page_text.specs.Written.{LineFits}
 use Rattle.page_text.specs.Laws.{Begins, FirstBad}
 use Rattle.page_text.proofs.Ending.{ended, lines_ended}
-use Rattle.page_text.proofs.Spelling.{total, spelt, Spelt, some_of}
+use Rattle.page.proofs.Fields.{some_of}
+use Rattle.page_text.proofs.Spelling.{total, spelt, Spelt}
 use Rattle.page_text.proofs.Returning.{line_text_lem, free_text}
 use Rattle.page_text.proofs.Accepting.{total_lines, not_long}
 
@@ -36,18 +37,15 @@ reach_append (l ∷ xs) ys s =
       | Some x ↦ elim (next_of s x) as (λ o. and_then o (reach (xs ++ ys)) ≡ and_then (and_then o (reach xs)) (reach ys)) [ None ↦ refl | Some t ↦ reach_append xs ys t ]
     ]
 
-never : {A : Type 0} (n : ℕ) (q : Sheet) → bad n ≡ good q → A
-never n q e = cc
-
 -- a text that is read leads somewhere, and lines that lead to an end are read
 good_reach : (ls : List (List ℕ)) (s : Stage) (n : ℕ) (p q : Sheet) → read_on (map line_of ls) s n p ≡ good q → (t : Stage) × (reach ls s ≡ Some t)
 unfolding read_on reach
 good_reach [] s n p q e = (s, refl)
 good_reach (l ∷ ls) s n p q e =
     (elim (line_of l) as (λ o. read_on (o ∷ map line_of ls) s n p ≡ good q → (t : Stage) × (and_then o (λ x. and_then (next_of s x) (reach ls)) ≡ Some t)) [
-      | None ↦ λ f. never n q f
+      | None ↦ λ f. cc
       | Some x ↦ λ f. (elim (next_of s x) as (λ o. elim o as (λ _. Parsed) [ None ↦ bad n | Some t ↦ read_on (map line_of ls) t (n + 1) (added p x) ] ≡ good q → (t : Stage) × (and_then o (reach ls) ≡ Some t))
-          [ None ↦ λ g. never n q g | Some u ↦ λ g. good_reach ls u (n + 1) (added p x) q g ]) f
+          [ None ↦ λ g. cc | Some u ↦ λ g. good_reach ls u (n + 1) (added p x) q g ]) f
     ]) e
 
 reach_good : (ls : List (List ℕ)) (s t : Stage) (n : ℕ) (p : Sheet) → reach ls s ≡ Some t → may_end t ≡ true → (q : Sheet) × (read_on (map line_of ls) s n p ≡ good q)
@@ -200,7 +198,7 @@ put_in x h s u n f m z =
       e = f.e;
       leads = lets_in (line_text x) f.ls s u x (line_text_lem x h) n ∙ f.leads;
       ends = f.ends;
-      none = λ y. let b : ◌≡◌ {A = Bool} true false = sym y ∙ m in let w : ◌≡◌ {A = ℕ} 0 1 = cc in absurd (omega arith);
+      none = λ y. let b : ◌≡◌ {A = Bool} true false = sym y ∙ m in cc;
       size = omega arith;
     }
 
@@ -271,11 +269,9 @@ fewer text j k h (t, p, e, s) = (t, p, e, sym (take-take j k (lines_of t) h) ∙
 -- a text with these lines and the one at which they stop is not read
 not_begun : (text : List ℕ) (n : ℕ) → reach (take n (lines_of text)) Start ≡ None → Begins n text → ⊥
 not_begun text n r (t, p, e, s) =
-    let g = good_reach (lines_of t) Start 1 empty p (not_long t p e) in
+    let g = good_reach (lines_of t) Start 1 empty p (not_long t p e).1 in
     let z : reach (lines_of t) Start ≡ None = ap (λ (l : List (List ℕ)). reach l Start) (sym (take-append-drop n (lines_of t))) ∙ reach_append (take n (lines_of t)) (drop n (lines_of t)) Start ∙ ap (λ (l : List (List ℕ)). and_then (reach l Start) (reach (drop n (lines_of t)))) s ∙ ap (λ (o : Option Stage). and_then o (reach (drop n (lines_of t)))) r in
-    let f = g.1 in
-    let y : ◌≡◌ {A = ℕ} 0 1 = cc in
-    omega arith
+    cc (g.1, z)
 
 stopped : (text : List ℕ) (n : ℕ) → length text ≤ 65536 → Stops (lines_of text) Start 1 n → FirstBad text n
 stopped text n h w =
