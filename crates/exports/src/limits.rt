@@ -113,6 +113,7 @@ fn find_limits(slots: &[Slot], steps: Option<&[Step]>) -> Result<Limits, Failure
 }
 
 /// The limits of a pipeline's steps over the slots; all 0 where there is no pipeline.
+#[tactic(auto, using(crate::proofs::Telling::status_refused))]
 pub fn jorumspit_limits(slots: &[Slot], pipeline: u64, steps: &[Step], limits: &mut Limits) -> u32
     ensures status { result ≡ result_status (slots_and_steps slots.now pipeline steps.now) }
     ensures written { limits.new ≡ limits_written (slots_and_steps slots.now pipeline steps.now) limits.old }
