@@ -1,5 +1,5 @@
 -- An accepted draw keeps what the tables hold, and so does a refused one.
-use Rattle.std.proofs.Common.{◌≡◌, ℕ, ◌<◌, ◌≤◌, false, All, List, [], ◌∷◌, ◌++◌, map, length, get_or, set, Some, Option, sym, refl, ◌∙◌, arith}
+use Rattle.std.proofs.Common.{◌≡◌, ℕ, ◌<◌, ◌≤◌, false, All, List, [], ◌∷◌, ◌++◌, map, length, get_or, set, Some, None, Option, sym, refl, ◌∙◌, arith}
 use lib.ListN.{get_or-map}
 use lib.Seq.{map-set_same}
 use Rattle.std.proofs.lemmas.List.{length-set, length_push, length-map, get_or_append_left, get_or_push, map_push}
@@ -14,7 +14,7 @@ use Rattle.places.specs.declared.current.CurrentEntry.{CurrentEntry}
 use Rattle.batcher.specs.declared.records.BatchKey.{BatchKey}
 use Rattle.batcher.specs.declared.records.DrawIndirectValidationBatch.{DrawIndirectValidationBatch}
 use Rattle.batcher.specs.declared.records.IndirectDraw.{IndirectDraw}
-use Rattle.batcher.specs.Holds.{key_of, Recorded, span_of, tally, Held}
+use Rattle.batcher.specs.Holds.{key_of, Recorded, span_of, tally, Held, Holds}
 use Rattle.batcher.specs.Judged.{Terms, Wanted, key_at, draw_at, place_for, opened, counted}
 use Rattle.batcher.specs.Keys.{same_key, has_key, First}
 use Rattle.batcher.specs.Records.{no_key, no_batch}
@@ -131,3 +131,11 @@ module _ (t : Terms) (ws : List Wanted) (cur : Option CurrentEntry) (ds : List I
           ranked = ranked_push [] ds opening h.ranked (sym (tally_none 0 ds (length bs) h.opens));
           counts = λ j l. counts_new j (omega (arith, l, longer));
         }
+
+-- nothing is recorded, whatever the tables hold
+pub holds_nothing : (t : Terms) (ds : List IndirectDraw) (bs : List DrawIndirectValidationBatch) → Holds t [] (record { draws = 0; batches = 0; current = None }) ds bs
+holds_nothing t ds bs = record {
+  drawn = omega arith;
+  opened = omega arith;
+  held = record { recorded = tt; laid = tt; ends = tt; different = λ i j d l m. absurd (omega (arith, m)); opens = refl; ranked = tt; counts = λ i l. absurd (omega (arith, l)) };
+}

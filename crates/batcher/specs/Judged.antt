@@ -167,16 +167,16 @@ pub record Recording (V : Type 0) : Type 0 where
   pub batches : List DrawIndirectValidationBatch
 
 -- what one more request writes, over a supply that holds so many buffers and can give so many more
-abbrev pub outcome_of : {V : Type 0} → (V → ℕ) → (V → ℕ) → Terms → Recording V → DrawRequest → Result Chosen Refusal
-outcome_of held more t r q = outcome t r.batching r.draws r.batches q (grants (held r.supply) (more r.supply))
+abbrev pub outcome_in : {V : Type 0} → (V → ℕ) → (V → ℕ) → Terms → Recording V → DrawRequest → Result Chosen Refusal
+outcome_in held more t r q = outcome t r.batching r.draws r.batches q (grants (held r.supply) (more r.supply))
 
-abbrev pub answer_of : {V : Type 0} → (V → ℕ) → (V → ℕ) → Terms → Recording V → DrawRequest → Result CurrentEntry Refusal
-answer_of held more t r q = place_of (outcome_of held more t r q)
+abbrev pub answer_in : {V : Type 0} → (V → ℕ) → (V → ℕ) → Terms → Recording V → DrawRequest → Result CurrentEntry Refusal
+answer_in held more t r q = place_of (outcome_in held more t r q)
 
-abbrev pub recorded : {V : Type 0} → (V → ℕ) → (V → ℕ) → (V → ℕ → V) → Terms → Recording V → DrawRequest → Recording V
-recorded held more ensured t r q = record {
-  batching = batching_after (outcome_of held more t r q) r.batching;
-  supply = supply_after ensured (outcome_of held more t r q) r.supply;
-  draws = draws_after (outcome_of held more t r q) r.batching r.draws;
-  batches = batches_after (outcome_of held more t r q) r.batches;
+abbrev pub recorded_in : {V : Type 0} → (V → ℕ) → (V → ℕ) → (V → ℕ → V) → Terms → Recording V → DrawRequest → Recording V
+recorded_in held more ensured t r q = record {
+  batching = batching_after (outcome_in held more t r q) r.batching;
+  supply = supply_after ensured (outcome_in held more t r q) r.supply;
+  draws = draws_after (outcome_in held more t r q) r.batching r.draws;
+  batches = batches_after (outcome_in held more t r q) r.batches;
 }

@@ -1,21 +1,16 @@
 -- What is printed of a sheet tells every draw and every batch.
-use Rattle.std.proofs.Common.{◌≡◌, ℕ, ◌+◌, ◌<◌, ◌≤◌, Bool, true, false, cond, ltb, List, [], ◌∷◌, ◌++◌, map, length, take, Some, None, Ok, Err, Option, Result, sym, refl, ap, ◌∙◌, subst, append_assoc, append-nil, arith, leb-false}
+use Rattle.std.proofs.Common.{◌≡◌, ℕ, ◌+◌, ◌<◌, ◌≤◌, Bool, true, false, cond, ltb, List, [], ◌∷◌, ◌++◌, map, length, take, None, Ok, Err, Option, Result, sym, refl, ap, ◌∙◌, subst, append_assoc, append-nil, arith}
 use Rattle.std.proofs.lemmas.List.{length-set, length-take-le, length-replicate, map_push, take_more_set}
 use Rattle.std.proofs.lemmas.Bool.Decides.{nat_tests}
 use Rattle.std.specs.List.{AllByRecursion}
-use Rattle.batcher.proofs.Keeping.{granted_ok}
+use Rattle.batcher.proofs.Accepting.{accepted}
 use Rattle.batcher.specs.Holds.{Held, Holds}
-use Rattle.batcher.specs.Judged.{Batching, Terms, Wanted, by_size, by_family, draws_after, joined, judged_wanted, outcome, place_of, prepared, table_checks, wanted}
-use Rattle.batcher.specs.Keys.{found}
+use Rattle.batcher.specs.Judged.{Recording, Terms, draws_after, place_of}
+use Rattle.places.specs.Counts.{Counts}
 use Rattle.batcher.specs.declared.batcher.judge.Chosen.{Chosen}
 use Rattle.batcher.specs.declared.records.DrawIndirectValidationBatch.{DrawIndirectValidationBatch}
-use Rattle.batcher.specs.declared.records.DrawRequest.{DrawRequest}
 use Rattle.batcher.specs.declared.records.IndirectDraw.{IndirectDraw}
-use Rattle.command.proofs.Checking.{first_ok, then_ok}
-use Rattle.command.specs.Checks.{first}
-use Rattle.command.specs.Family.{argument_answer, family_of}
 use Rattle.command.specs.Lawful.{lawful}
-use Rattle.command.specs.declared.family.DrawCommandFamily.{DrawCommandFamily}
 use Rattle.command.specs.declared.refusal.Refusal.{Refusal}
 use Rattle.command.specs.declared.refusal.Refusal.TheVariants.{UnlawfulSettings}
 use Rattle.page.specs.Sheets.{Sheet}
@@ -26,56 +21,40 @@ use Rattle.places.specs.declared.current.CurrentEntry.{CurrentEntry}
 use Rattle.plan.proofs.Placing.{next_bound}
 use Rattle.plan.proofs.Staging.{batches_known, front_planned, planned_held}
 use Rattle.plan.specs.Planned.{ending, measured, next_of, plan_answer, planned}
-use Rattle.sheet.specs.Frames.{Recording, answer_of, fresh, outcome_of, recorded, recorded_all, request_of}
+use Rattle.sheet.specs.Frames.{answer_of, fresh, outcome_of, recorded, recorded_all, request_of}
 use Rattle.sheet.specs.Laws.{Tells, Told, answers_text, place_of_draw, places_in}
 use Rattle.sheet.specs.Printed.{answer_line, answer_lines, batch_lines, frame_text, parsed_text, plan_lines, planned_text, printed, refused_line, terms_of}
 use Rattle.sheet.proofs.Sounding.{sound_all, sound_fresh}
 
 module _ (t : Terms) (ss : List ℕ) where
-  answers_of : Recording → List DrawLine → List (Result CurrentEntry Refusal)
+  answers_of : Recording Counts → List DrawLine → List (Result CurrentEntry Refusal)
   answers_of f [] = []
   answers_of f (d ∷ ds) = answer_of t ss f d ∷ answers_of (recorded t ss f d) ds
 
-  lines_of : (f : Recording) (ds : List DrawLine) → answer_lines t ss f ds ≡ answers_text (answers_of f ds)
+  lines_of : (f : Recording Counts) (ds : List DrawLine) → answer_lines t ss f ds ≡ answers_text (answers_of f ds)
   unfolding answers_of answer_lines
   lines_of f [] = refl
   lines_of f (d ∷ ds) = ap (λ (l : List ℕ). answer_line (answer_of t ss f d) ++ l) (lines_of (recorded t ss f d) ds)
 
-  as_many : (f : Recording) (ds : List DrawLine) → length (answers_of f ds) ≡ length ds
+  as_many : (f : Recording Counts) (ds : List DrawLine) → length (answers_of f ds) ≡ length ds
   unfolding answers_of
   as_many f [] = refl
   as_many f (d ∷ ds) = ap Prim.Native.Nat.suc (as_many (recorded t ss f d) ds)
 
-  -- an accepted draw found room in its table
-  wanted_room : (s : Batching) (ds : List IndirectDraw) (bs : List DrawIndirectValidationBatch) (w : Wanted) (c : Chosen) → judged_wanted t s ds bs w ≡ Ok c → s.draws < length ds
-  wanted_room s ds bs w c e =
-      let p = prepared t s.current w in
-      let rest = joined w.family p s.batches bs (found p.key (take s.batches bs) 0) in
-      let j = then_ok (argument_answer t.src w.family w.size w.offset) (first (table_checks s ds bs) rest) c e in
-      leb-false (length ds) s.draws (first_ok (table_checks s ds bs) rest c j).0.0
-
-  size_room : (s : Batching) (ds : List IndirectDraw) (bs : List DrawIndirectValidationBatch) (q : DrawRequest) (f : DrawCommandFamily) (z : Option ℕ) (c : Chosen) → by_size t s ds bs q f z ≡ Ok c → s.draws < length ds
-  size_room s ds bs q f None c e = let z : ◌≡◌ {A = ℕ} 0 1 = cc in absurd (omega arith)
-  size_room s ds bs q f (Some z) c e = wanted_room s ds bs (wanted q f z) c e
-
-  family_room : (s : Batching) (ds : List IndirectDraw) (bs : List DrawIndirectValidationBatch) (q : DrawRequest) (f : Option DrawCommandFamily) (c : Chosen) → by_family t s ds bs q f ≡ Ok c → s.draws < length ds
-  family_room s ds bs q None c e = let z : ◌≡◌ {A = ℕ} 0 1 = cc in absurd (omega arith)
-  family_room s ds bs q (Some f) c e = size_room s ds bs q f q.size c e
-
-  abbrev standing : Recording → List CurrentEntry
+  abbrev standing : Recording Counts → List CurrentEntry
   standing f = map place_of_draw (take f.batching.draws f.draws)
 
-  place_step : (f : Recording) (d : DrawLine) (o : Result Chosen Refusal) → outcome_of t ss f d ≡ o → map place_of_draw (take (Rattle.batcher.specs.Judged.batching_after o f.batching).draws (draws_after o f.batching f.draws)) ≡ standing f ++ places_in (place_of o ∷ [])
+  place_step : (f : Recording Counts) (d : DrawLine) (o : Result Chosen Refusal) → outcome_of t ss f d ≡ o → map place_of_draw (take (Rattle.batcher.specs.Judged.batching_after o f.batching).draws (draws_after o f.batching f.draws)) ≡ standing f ++ places_in (place_of o ∷ [])
   place_step f d (Err r) e = sym (append-nil (standing f))
   place_step f d (Ok c) e =
-      let l = family_room f.batching f.draws f.batches (request_of ss d) (family_of d.kind) c (granted_ok (by_family t f.batching f.draws f.batches (request_of ss d) (family_of d.kind)) (grants f.supply.holds f.supply.left) c e) in
+      let l = (accepted t f.batching f.draws f.batches (request_of ss d) (grants f.supply.holds f.supply.left) c e).2.room in
       ap (λ (x : List IndirectDraw). map place_of_draw x) (take_more_set f.draws f.batching.draws c.draw l) ∙ map_push place_of_draw (take f.batching.draws f.draws) c.draw
 
   one_more : (r : Result CurrentEntry Refusal) (rs : List (Result CurrentEntry Refusal)) → places_in (r ∷ []) ++ places_in rs ≡ places_in (r ∷ rs)
   one_more (Ok p) rs = refl
   one_more (Err e) rs = refl
 
-  places_of : (f : Recording) (ds : List DrawLine) → standing (recorded_all t ss f ds) ≡ standing f ++ places_in (answers_of f ds)
+  places_of : (f : Recording Counts) (ds : List DrawLine) → standing (recorded_all t ss f ds) ≡ standing f ++ places_in (answers_of f ds)
   unfolding answers_of recorded_all
   places_of f [] = sym (append-nil (standing f))
   places_of f (d ∷ ds) =
@@ -85,11 +64,11 @@ module _ (t : Terms) (ss : List ℕ) where
       ∙ ap (λ (l : List CurrentEntry). standing f ++ l) (one_more (answer_of t ss f d) (answers_of (recorded t ss f d) ds))
 
   -- the tables keep their lengths
-  long_step : (f : Recording) (d : DrawLine) (o : Result Chosen Refusal) → length (Rattle.batcher.specs.Judged.batches_after o f.batches) ≡ length f.batches
+  long_step : (f : Recording Counts) (d : DrawLine) (o : Result Chosen Refusal) → length (Rattle.batcher.specs.Judged.batches_after o f.batches) ≡ length f.batches
   long_step f d (Err r) = refl
   long_step f d (Ok c) = length-set f.batches c.draw.batch c.batch
 
-  long : (f : Recording) (ds : List DrawLine) → length (recorded_all t ss f ds).batches ≡ length f.batches
+  long : (f : Recording Counts) (ds : List DrawLine) → length (recorded_all t ss f ds).batches ≡ length f.batches
   unfolding recorded_all
   long f [] = refl
   long f (d ∷ ds) = long (recorded t ss f d) ds ∙ long_step f d (outcome_of t ss f d)

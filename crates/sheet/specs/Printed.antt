@@ -8,7 +8,8 @@ use Rattle.command.specs.declared.refusal.Refusal.{Refusal}
 use Rattle.command.specs.declared.refusal.Refusal.TheVariants.{UnlawfulSettings}
 use Rattle.entry.specs.declared.metadata.MetadataEntry.{MetadataEntry}
 use Rattle.places.specs.declared.current.CurrentEntry.{CurrentEntry}
-use Rattle.batcher.specs.Judged.{Terms}
+use Rattle.batcher.specs.Judged.{Recording, Terms}
+use Rattle.places.specs.Counts.{Counts}
 use Rattle.batcher.specs.declared.records.DrawIndirectValidationBatch.{DrawIndirectValidationBatch}
 use Rattle.batcher.specs.declared.records.IndirectDraw.{IndirectDraw}
 use Rattle.page.specs.Sheets.{Parsed, Sheet, bad, good, read_page}
@@ -17,7 +18,7 @@ use Rattle.plan.specs.Planned.{batches_after, plan_answer}
 use Rattle.plan.specs.declared.frame.FramePlan.{FramePlan}
 use Rattle.sheet.specs.declared.print.AnswerLine.{AnswerLine}
 use Rattle.sheet.specs.declared.print.AnswerLine.TheVariants.{Bad, Batch, Entry, Place, Refused}
-use Rattle.sheet.specs.Frames.{Recording, answer_of, fresh, recorded, recorded_all}
+use Rattle.sheet.specs.Frames.{answer_of, fresh, recorded, recorded_all}
 
 abbrev pub newline : List ℕ
 newline = 10 ∷ []
@@ -52,7 +53,7 @@ line_of (Err r) = Refused r
 abbrev pub answer_line : Result CurrentEntry Refusal → List ℕ
 answer_line r = line_text (line_of r) ++ newline
 
-unfoldable pub answer_lines : Terms → List ℕ → Recording → List DrawLine → List ℕ
+unfoldable pub answer_lines : Terms → List ℕ → Recording Counts → List DrawLine → List ℕ
 answer_lines t sources f [] = []
 answer_lines t sources f (d ∷ ds) = answer_line (answer_of t sources f d) ++ answer_lines t sources (recorded t sources f d) ds
 
@@ -72,11 +73,11 @@ batch_lines k ds [] = []
 batch_lines k ds (b ∷ bs) = (batch_line b ++ entry_lines k ds) ++ batch_lines (k + 1) ds bs
 
 -- the plan of what was recorded, over 256 metadata buffers
-abbrev pub plan_lines : ℕ → ℕ → Recording → Result FramePlan Refusal → List ℕ
+abbrev pub plan_lines : ℕ → ℕ → Recording Counts → Result FramePlan Refusal → List ℕ
 plan_lines block room f (Ok p) = batch_lines 0 (take f.batching.draws f.draws) (take f.batching.batches (batches_after block room f.batching.batches (Ok p) f.batches))
 plan_lines block room f (Err r) = refused_line r
 
-abbrev pub planned_text : ℕ → ℕ → Recording → List ℕ
+abbrev pub planned_text : ℕ → ℕ → Recording Counts → List ℕ
 planned_text block room f = plan_lines block room f (plan_answer block room f.batching.batches f.batches 256)
 
 abbrev pub frame_text : Terms → ℕ → List ℕ → List DrawLine → List ℕ

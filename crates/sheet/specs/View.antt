@@ -1,11 +1,8 @@
--- A frame with its tables.
-use Rattle.std.specs.Prelude.{List}
-use Rattle.batcher.specs.View.{batching}
-use Rattle.batcher.specs.declared.records.DrawIndirectValidationBatch.{DrawIndirectValidationBatch}
-use Rattle.batcher.specs.declared.records.IndirectDraw.{IndirectDraw}
-use Rattle.places.specs.Counts.{counts}
-use Rattle.sheet.specs.Frames.{Recording}
+-- A frame as what stands in it.
+use Rattle.batcher.specs.Judged.{Recording}
+use Rattle.batcher.specs.View.{recording}
+use Rattle.places.specs.Counts.{Counts, counts}
 use Rattle.sheet.specs.declared.frame.Frame.{Frame}
 
-abbrev pub recording_of : Frame → List IndirectDraw → List DrawIndirectValidationBatch → Recording
-recording_of f ds bs = record { batching = batching f.batcher; supply = counts f.destinations.held f.destinations.left; draws = ds; batches = bs }
+abbrev pub recording_of : Frame → Recording Counts
+recording_of f = recording f.batcher (counts f.destinations.held f.destinations.left) f.tables

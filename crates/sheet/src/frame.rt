@@ -1,14 +1,15 @@
-ghost use Rattle.std.specs.Prelude.{◌≡◌, ℕ, None};
-ghost use Rattle.batcher.specs.Judged.{terms};
+ghost use Rattle.std.specs.Prelude.{◌≡◌, ℕ, ◌≤◌, length, take, None};
+ghost use Rattle.batcher.specs.Judged.{frame_terms};
 ghost use Rattle.batcher.specs.View.{batching};
 ghost use Rattle.places.specs.Counts.{counts};
 ghost use Rattle.plan.specs.Planned.{batches_after, plan_answer};
 ghost use Rattle.sheet.specs.Frames.{answer_of, recorded, request_of};
 ghost use Rattle.sheet.specs.View.{recording_of};
-ghost use Rattle.std.specs.List.{slice_get};
 
 use batcher::batcher::DrawBatcher;
 use batcher::records::{DrawIndirectValidationBatch, DrawRequest, IndirectDraw};
+use batcher::tables::Tables;
+use batcher::terms::FrameTerms;
 use command::refusal::Refusal;
 use command::settings::Settings;
 use command::sizes::Sizes;
@@ -20,23 +21,13 @@ use plan::frame::{FramePlan, plan};
 /// So many buffers of each kind a frame may take.
 const MOST_BUFFERS: usize = 256;
 
-/// A frame that is recorded without a device: its buffers are only counted.
-#[derive(Clone, Copy)]
-pub struct Frame {
-    pub settings: Settings,
-    pub sizes: Sizes,
+/// A frame that is recorded without a device: its buffers are only counted, and its tables are lent.
+#[derive(Drop)]
+pub struct Frame<'a> {
+    pub terms: FrameTerms,
     pub batcher: DrawBatcher,
     pub destinations: Counted,
-}
-
-// The size of a source, or nothing where there is none of that number.
-fn source_size(sources: &[u64], source: u64) -> Option<u64>
-    ensures { result ≡ slice_get sources.now source }
-{
-    if source >= sources.len() as u64 {
-        return None;
-    }
-    Some(sources[source as usize])
+    pub tables: Tables<'a>,
 }
 
 // What a line asks for, over the sources of its sheet.
@@ -46,61 +37,85 @@ fn request_of(sources: &[u64], line: &DrawLine) -> DrawRequest
     DrawRequest {
         kind: line.kind,
         source: line.source,
-        size: source_size(sources, line.source),
+        size: sources.get(line.source as usize).copied(),
         offset: line.offset,
         limit: line.first_limit,
         instances: line.instance_limit,
     }
 }
 
-impl Frame {
-    /// A frame with nothing recorded.
-    pub fn new(settings: Settings) -> Frame
-        ensures settings { result.settings ≡ settings }
-        ensures sizes { (result.sizes.buffer ≡ 1048560) × (result.sizes.block ≡ 67108864) }
+impl<'a> Frame<'a> {
+    /// A frame with nothing recorded, of the sizes that wgpu-core uses.
+    pub fn new(settings: Settings, tables: Tables<'a>) -> Frame<'a>
+        ensures settings { result.terms.settings ≡ settings }
+        ensures sizes { (result.terms.sizes.buffer ≡ 1048560) × (result.terms.sizes.block ≡ 67108864) }
         ensures batcher { batching result.batcher ≡ record { draws = 0; batches = 0; current = None } }
         ensures destinations { counts result.destinations.held result.destinations.left ≡ counts 0 256 }
+        ensures tables { result.tables ≡ tables.entry }
+    {
+        let sizes = Sizes::base();
+        Frame::with_terms(FrameTerms { settings, sizes }, tables)
+    }
+
+    /// A frame with nothing recorded, of other terms.
+    pub fn with_terms(terms: FrameTerms, tables: Tables<'a>) -> Frame<'a>
+        ensures terms { result.terms ≡ terms }
+        ensures batcher { batching result.batcher ≡ record { draws = 0; batches = 0; current = None } }
+        ensures destinations { counts result.destinations.held result.destinations.left ≡ counts 0 256 }
+        ensures tables { result.tables ≡ tables.entry }
     {
         Frame {
-            settings,
-            sizes: Sizes::base(),
+            terms,
             batcher: DrawBatcher::new(),
             destinations: Counted::new(MOST_BUFFERS),
+            tables,
         }
     }
 
     /// Records the draw of a line, and answers its place or why it is refused.
-    pub fn record(
-        &mut self,
-        draws: &mut [IndirectDraw],
-        batches: &mut [DrawIndirectValidationBatch],
-        sources: &[u64],
-        line: &DrawLine,
-    ) -> Result<CurrentEntry, Refusal>
-        ensures answer { result ≡ answer_of (terms self.old.settings self.old.sizes) sources.now (recording_of self.old draws.old batches.old) line.now }
-        ensures after { recording_of self.new draws.new batches.new ≡ recorded (terms self.old.settings self.old.sizes) sources.now (recording_of self.old draws.old batches.old) line.now }
-        ensures settings { self.new.settings ≡ self.old.settings }
-        ensures sizes { self.new.sizes ≡ self.old.sizes }
+    pub fn record(&mut self, sources: &[u64], line: &DrawLine) -> Result<CurrentEntry, Refusal>
+        ensures answer { result ≡ answer_of (frame_terms self.old.terms) sources.now (recording_of self.old) line.now }
+        ensures after { recording_of self.new ≡ recorded (frame_terms self.old.terms) sources.now (recording_of self.old) line.now }
+        ensures terms { self.new.terms ≡ self.old.terms }
+        ensures same_draws { self.new.tables.draws.ghost_name ≡ self.old.tables.draws.ghost_name }
+        ensures same_batches { self.new.tables.batches.ghost_name ≡ self.old.tables.batches.ghost_name }
     {
         let request = request_of(sources, line);
-        let settings = self.settings;
-        let sizes = self.sizes;
-        self.batcher.add(
-            &mut self.destinations,
-            draws,
-            batches,
-            &settings,
-            &sizes,
-            &request,
-        )
+        let terms = self.terms;
+        self.batcher
+            .add(&mut self.destinations, &mut self.tables, &terms, &request)
     }
 
     /// Plans what was recorded, over metadata buffers that are only counted.
-    pub fn plan(&self, batches: &mut [DrawIndirectValidationBatch]) -> Result<FramePlan, Refusal>
-        ensures answer { result ≡ plan_answer self.now.sizes.block self.now.sizes.buffer self.now.batcher.batches batches.old 256 }
-        ensures batches { batches.new ≡ batches_after self.now.sizes.block self.now.sizes.buffer self.now.batcher.batches result batches.old }
+    pub fn plan(&mut self) -> Result<FramePlan, Refusal>
+        ensures answer { result ≡ plan_answer self.old.terms.sizes.block self.old.terms.sizes.buffer self.old.batcher.batches self.old.tables.batches.now 256 }
+        ensures after { recording_of self.new ≡ record (recording_of self.old) { batches = batches_after self.old.terms.sizes.block self.old.terms.sizes.buffer self.old.batcher.batches result self.old.tables.batches.now } }
+        ensures length { length self.new.tables.batches.now ≡ length self.old.tables.batches.now }
+        ensures terms { self.new.terms ≡ self.old.terms }
+        ensures same_draws { self.new.tables.draws.ghost_name ≡ self.old.tables.draws.ghost_name }
+        ensures same_batches { self.new.tables.batches.ghost_name ≡ self.old.tables.batches.ghost_name }
     {
         let mut metadata = Counted::new(MOST_BUFFERS);
-        plan(&self.batcher, &mut metadata, batches, &self.sizes)
+        let batcher = self.batcher;
+        let sizes = self.terms.sizes;
+        plan(&batcher, &mut metadata, self.tables.batches, &sizes)
+    }
+
+    /// The draws that were accepted, in a table that holds them.
+    pub fn draws(&self) -> &[IndirectDraw]
+        requires { self.now.batcher.draws ≤ length self.now.tables.draws.now }
+        ensures { result.now ≡ take self.now.batcher.draws self.now.tables.draws.now }
+    {
+        let count = self.batcher.draws();
+        &self.tables.draws[..count]
+    }
+
+    /// The batches that they form, in a table that holds them.
+    pub fn batches(&self) -> &[DrawIndirectValidationBatch]
+        requires { self.now.batcher.batches ≤ length self.now.tables.batches.now }
+        ensures { result.now ≡ take self.now.batcher.batches self.now.tables.batches.now }
+    {
+        let count = self.batcher.batches();
+        &self.tables.batches[..count]
     }
 }

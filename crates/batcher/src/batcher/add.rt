@@ -1,6 +1,6 @@
 ghost use Rattle.std.specs.Prelude.{◌≡◌, ℕ, List, [], ◌++◌, take, None, MatchResult};
 ghost use Rattle.batcher.specs.Holds.{Bounded, Holds, asked};
-ghost use Rattle.batcher.specs.Judged.{Terms, Wanted, answer_of, frame_terms, recorded};
+ghost use Rattle.batcher.specs.Judged.{Terms, Wanted, answer_in, frame_terms, recorded_in};
 ghost use Rattle.batcher.specs.View.{batching, recording};
 
 use super::super::records::{DrawIndirectValidationBatch, DrawRequest, IndirectDraw};
@@ -35,8 +35,8 @@ impl DrawBatcher {
         terms: &FrameTerms,
         request: &DrawRequest,
     ) -> Result<CurrentEntry, Refusal>
-        ensures answer { result ≡ answer_of S.Supply.held S.Supply.more (frame_terms terms.now) (recording self.old (S.Supply.view supply.old) tables.old) request.now }
-        ensures after { recording self.new (S.Supply.view supply.new) tables.new ≡ recorded S.Supply.held S.Supply.more S.Supply.ensured (frame_terms terms.now) (recording self.old (S.Supply.view supply.old) tables.old) request.now }
+        ensures answer { result ≡ answer_in S.Supply.held S.Supply.more (frame_terms terms.now) (recording self.old (S.Supply.view supply.old) tables.old) request.now }
+        ensures after { recording self.new (S.Supply.view supply.new) tables.new ≡ recorded_in S.Supply.held S.Supply.more S.Supply.ensured (frame_terms terms.now) (recording self.old (S.Supply.view supply.old) tables.old) request.now }
         ensures kept { S.Supply.names supply.new ≡ S.Supply.names supply.old }
         ensures same_draws { tables.new.draws.ghost_name ≡ tables.old.draws.ghost_name }
         ensures same_batches { tables.new.batches.ghost_name ≡ tables.old.batches.ghost_name }
