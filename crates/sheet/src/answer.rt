@@ -36,8 +36,6 @@ fn put_draws(
 
 // Plans what was recorded, and prints each batch with its entries.
 fn put_plan(out: &mut String, frame: &mut Frame) -> Result<(), AllocError>
-    requires draws { frame.old.batcher.draws ≤ length frame.old.tables.draws.now }
-    requires batches { frame.old.batcher.batches ≤ length frame.old.tables.batches.now }
     ensures { OnOk result (string_bytes out.new ≡ string_bytes out.old ++ planned_text frame.old.terms.sizes.block frame.old.terms.sizes.buffer (recording_of frame.old)) }
 {
     match frame.plan() {

@@ -44,6 +44,13 @@ fn request_of(sources: &[u64], line: &DrawLine) -> DrawRequest
     }
 }
 
+// What stands in a table after so many records; all of it where it is shorter.
+fn recorded<T: Copy>(table: &[T], count: usize) -> &[T]
+    ensures { result.now ≡ take count table.now }
+{
+    table.get(..count).unwrap_or(table)
+}
+
 impl<'a> Frame<'a> {
     /// A frame with nothing recorded, of the sizes that wgpu-core uses.
     pub fn new(settings: Settings, tables: Tables<'a>) -> Frame<'a>
@@ -101,21 +108,17 @@ impl<'a> Frame<'a> {
         plan(&batcher, &mut metadata, self.tables.batches, &sizes)
     }
 
-    /// The draws that were accepted, in a table that holds them.
+    /// The draws that were accepted.
     pub fn draws(&self) -> &[IndirectDraw]
-        requires { self.now.batcher.draws ≤ length self.now.tables.draws.now }
         ensures { result.now ≡ take self.now.batcher.draws self.now.tables.draws.now }
     {
-        let count = self.batcher.draws();
-        &self.tables.draws[..count]
+        recorded(self.tables.draws, self.batcher.draws())
     }
 
-    /// The batches that they form, in a table that holds them.
+    /// The batches that they form.
     pub fn batches(&self) -> &[DrawIndirectValidationBatch]
-        requires { self.now.batcher.batches ≤ length self.now.tables.batches.now }
         ensures { result.now ≡ take self.now.batcher.batches self.now.tables.batches.now }
     {
-        let count = self.batcher.batches();
-        &self.tables.batches[..count]
+        recorded(self.tables.batches, self.batcher.batches())
     }
 }

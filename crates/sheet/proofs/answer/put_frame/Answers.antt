@@ -1,4 +1,4 @@
-use Rattle.std.proofs.Common.{◌≡◌, ℕ, List, ◌++◌, sym, ap, ◌∙◌, subst, append_assoc}
+use Rattle.std.proofs.Common.{◌≡◌, ℕ, List, ◌++◌, ap, ◌∙◌, append_assoc}
 use Rattle.std.proofs.lemmas.Result.{on_ok_weaker}
 use Rattle.batcher.specs.Judged.{Recording, Terms, frame_terms}
 use Rattle.batcher.specs.declared.tables.Tables.{Tables}
@@ -7,21 +7,11 @@ use Rattle.command.specs.Family.{src_stride, dst_stride}
 use Rattle.command.specs.declared.settings.Settings.{Settings}
 use Rattle.page.specs.declared.line.DrawLine.{DrawLine}
 use Rattle.places.specs.Counts.{Counts}
-use Rattle.sheet.specs.Frames.{fresh, recorded_all}
+use Rattle.sheet.specs.Frames.{recorded_all}
 use Rattle.sheet.specs.Printed.{answer_lines, planned_text, terms_of}
 use Rattle.sheet.specs.View.{recording_of}
-use Rattle.sheet.proofs.Sounding.{Inside, begun, inside}
+use Rattle.sheet.proofs.Sounding.{begun}
 use Rattle.sheet.proofs.answer.put_frame.Goals as goal
-
-pub put_plan-requires : goal.put_plan-requires
-put_plan-requires c =
-    let n = c.new-frame.ensures in
-    let t = frame_terms c.new-frame.result.terms in
-    let b = begun c.new-frame.result c.empty-draws.result c.empty-batches.result n.batcher n.destinations (ap (λ (t : Tables). t.draws.now) n.tables) (ap (λ (t : Tables). t.batches.now) n.tables) c.empty-draws.ensures c.empty-batches.ensures in
-    let e : recording_of c.put_draws.new.frame ≡ recorded_all t c.args.sources.now fresh c.args.lines.now =
-    c.in_ok-put_draws.ensures.after ∙ ap (λ (f : Recording Counts). recorded_all t c.args.sources.now f c.args.lines.now) b in
-    let i = subst Inside (sym e) (inside t c.args.sources.now c.args.lines.now) in
-    record { draws = i.0; batches = i.1 }
 
 same_terms : (t : FrameTerms) (s : Settings) → t.settings ≡ s → (t.sizes.buffer ≡ 1048560) × (t.sizes.block ≡ 67108864) → frame_terms t ≡ terms_of s.alignment s.largest_binding
 same_terms t s es ez = λ i. record { alignment = (es i).alignment; largest = (es i).largest_binding; room = ez.0 i; src = src_stride; dst = dst_stride }
