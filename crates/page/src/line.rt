@@ -8,7 +8,8 @@ use std::fmt;
 /// A source has at most so many bytes.
 const LARGEST_SOURCE: u64 = 4_294_967_295;
 
-/// The numbers of a draw's line, in their order.
+/// The numbers of a draw's line, in their order. Each may be any number, the kind too: the line has the form of a draw
+/// all the same, and the draw is refused when it is recorded.
 #[derive(Clone, Copy, PartialEq, Eq)]
 pub struct DrawLine {
     pub kind: u64,

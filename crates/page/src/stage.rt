@@ -13,7 +13,8 @@ pub enum Stage {
     Start,
     /// The alignment.
     Aligned,
-    /// Both settings, and so many sources.
+    /// Both settings, and so many sources. The page has a list of them, too: with the count here, what may come next
+    /// is told by the stage alone.
     Sources(u64),
     /// Draws, after the sources.
     Draws,

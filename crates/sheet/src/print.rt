@@ -8,7 +8,8 @@ use places::current::CurrentEntry;
 use std::alloc::AllocError;
 use std::fmt;
 
-/// A place as it is printed: its buffer or block, and the offset in it.
+/// A place as it is printed: its buffer or block, and the offset in it. The type of places is of a crate that prints
+/// nothing.
 #[derive(Clone, Copy)]
 struct At(CurrentEntry);
 
@@ -96,6 +97,7 @@ fn put_entries(out: &mut String, number: usize, draws: &[IndirectDraw]) -> Resul
     Ok(())
 }
 
+// Each batch, by its number, with its entries.
 pub(crate) fn put_batches(
     out: &mut String,
     draws: &[IndirectDraw],
