@@ -1,18 +1,22 @@
 -- What is known of a request that was accepted.
-use Rattle.std.proofs.Common.{◌≡◌, ℕ, ◌<◌, Bool, true, false, cond, List, [], ◌∷◌, length, take, Some, None, Ok, Err, Option, Result, refl, leb-false}
+use Rattle.std.proofs.Common.{◌-◌, ◌^◌, ◌≤◌, leb, get_or, ap, arith, ◌≡◌, ℕ, ◌<◌, Bool, true, false, cond, List, [], ◌∷◌, length, take, Some, None, Ok, Err, Option, Result, refl, leb-false}
+use Rattle.std.proofs.lemmas.List.{length-take}
 use Rattle.command.proofs.Checking.{first_ok, then_ok}
 use Rattle.command.specs.Checks.{first}
 use Rattle.command.specs.Family.{argument_answer, family_of}
 use Rattle.command.specs.declared.family.DrawCommandFamily.{DrawCommandFamily}
 use Rattle.command.specs.declared.refusal.Refusal.{Refusal}
-use Rattle.command.specs.declared.refusal.Refusal.TheVariants.{NoBuffer}
+use Rattle.command.specs.declared.refusal.Refusal.TheVariants.{NoBuffer, TableFull}
 use Rattle.batcher.specs.declared.batcher.judge.Chosen.{Chosen}
+use Rattle.batcher.specs.declared.batcher.judge.Prepared.{Prepared}
 use Rattle.batcher.specs.declared.records.DrawIndirectValidationBatch.{DrawIndirectValidationBatch}
 use Rattle.batcher.specs.declared.records.DrawRequest.{DrawRequest}
 use Rattle.batcher.specs.declared.records.IndirectDraw.{IndirectDraw}
 use Rattle.batcher.specs.Holds.{asked, asked_of}
-use Rattle.batcher.specs.Judged.{Terms, Batching, Wanted, wanted, prepared, joined, table_checks, judged, judged_wanted, by_size, by_family, given, granted, outcome}
+use Rattle.batcher.specs.Judged.{Terms, Batching, Wanted, wanted, prepared, chosen, counted, opened, joined, table_checks, judged, judged_wanted, by_size, by_family, given, granted, outcome}
 use Rattle.batcher.specs.Keys.{found}
+use Rattle.batcher.specs.Records.{no_batch}
+use Rattle.batcher.proofs.Finding.{finds}
 
 module _ (t : Terms) (s : Batching) (ds : List IndirectDraw) (bs : List DrawIndirectValidationBatch) where
   -- the draw found room in its table, and joined a batch or opened one
@@ -53,3 +57,22 @@ granted_ok (Ok d) can c q = at (given d.asks can) q
 
 pub accepted : (t : Terms) (s : Batching) (ds : List IndirectDraw) (bs : List DrawIndirectValidationBatch) (q : DrawRequest) (can : ℕ → Bool) (c : Chosen) → outcome t s ds bs q can ≡ Ok c → Accepted t s ds bs (asked q) c
 accepted t s ds bs q can c e = accepted_judged t s ds bs q c (granted_ok (judged t s ds bs q) can c e)
+
+-- the batch that the draw joined, or the next one, in a table that has room for it
+abbrev pub JoinedAs : Prepared → ℕ → List DrawIndirectValidationBatch → Option ℕ → Chosen → Type 0
+JoinedAs p n bs (Some i) c = chosen p i (get_or bs i no_batch).count (counted (get_or bs i no_batch)) ≡ c
+JoinedAs p n bs None c = (n < length bs) × (chosen p n 0 (opened p.key) ≡ c)
+
+pub joined_as : (p : Prepared) (n : ℕ) (bs : List DrawIndirectValidationBatch) (r : Option ℕ) (c : Chosen) → joined p n bs r ≡ Ok c → JoinedAs p n bs r c
+joined_as p n bs (Some i) c j =
+    let f = first_ok ((leb (2 ^ 32 - 1) (get_or bs i no_batch).count, TableFull) ∷ []) (Ok (chosen p i (get_or bs i no_batch).count (counted (get_or bs i no_batch)))) c j in
+    cc
+joined_as p n bs None c j =
+    let f = first_ok ((leb (length bs) n, TableFull) ∷ []) (Ok (chosen p n 0 (opened p.key))) c j in
+    (leb-false (length bs) n f.0.0, cc)
+
+-- a draw names a batch that is there, or the next one
+pub names : (p : Prepared) (n : ℕ) (bs : List DrawIndirectValidationBatch) (r : Option ℕ) (c : Chosen) → found p.key (take n bs) ≡ r → joined p n bs r ≡ Ok c → c.draw.batch ≤ n
+names p n bs (Some i) c e j =
+    omega (arith, (finds p.key (take n bs) (Some i) e).within, length-take n bs, ap (λ (x : Chosen). x.draw.batch) (joined_as p n bs (Some i) c j))
+names p n bs None c e j = omega (arith, ap (λ (x : Chosen). x.draw.batch) (joined_as p n bs None c j).1)

@@ -1,10 +1,8 @@
 -- Whatever a request answers, the tables hold what was accepted.
-use Rattle.std.proofs.Common.{◌≡◌, ℕ, ◌+◌, ◌-◌, ◌^◌, ◌<◌, max, Bool, false, leb, All, List, [], ◌∷◌, ◌++◌, length, get_or, take, Some, None, Ok, Err, Option, Result, sym, refl, subst, arith, leb-false, MatchResult}
+use Rattle.std.proofs.Common.{◌≡◌, ℕ, ◌+◌, ◌<◌, max, Bool, false, All, List, [], ◌∷◌, ◌++◌, length, get_or, take, Some, None, Ok, Err, Option, Result, sym, refl, subst, arith, MatchResult}
 use Rattle.std.proofs.Math.Seq.{take-set-lt}
 use Rattle.std.proofs.lemmas.List.{length-set, take_more_set, length-take-le, get_or-take}
-use Rattle.command.proofs.Checking.{first_ok}
 use Rattle.command.specs.declared.refusal.Refusal.{Refusal}
-use Rattle.command.specs.declared.refusal.Refusal.TheVariants.{TableFull}
 use Rattle.batcher.specs.declared.batcher.judge.Chosen.{Chosen}
 use Rattle.batcher.specs.declared.batcher.judge.Prepared.{Prepared}
 use Rattle.batcher.specs.declared.records.DrawIndirectValidationBatch.{DrawIndirectValidationBatch}
@@ -14,7 +12,7 @@ use Rattle.batcher.specs.Holds.{Holds, asked}
 use Rattle.batcher.specs.Judged.{Terms, Batching, Wanted, prepared, chosen, counted, opened, draw_at, place_for, joined, judged, outcome, place_of, draws_after, batches_after, batching_after}
 use Rattle.batcher.specs.Keys.{found, has_key, First}
 use Rattle.batcher.specs.Records.{no_batch}
-use Rattle.batcher.proofs.Accepting.{Accepted, accepted, accepted_judged}
+use Rattle.batcher.proofs.Accepting.{Accepted, accepted, accepted_judged, joined_as}
 use Rattle.batcher.proofs.Finding.{finds}
 use Rattle.batcher.proofs.Holding.{held_joins, held_opens}
 
@@ -55,15 +53,10 @@ module _ (t : Terms) (s : Batching) (ds : List IndirectDraw) (bs : List DrawIndi
         }
 
     keeps_found : (r : Option ℕ) → found ready.key (take s.batches bs) ≡ r → (c : Chosen) → joined ready s.batches bs r ≡ Ok c → After (w ∷ []) c
-    keeps_found (Some i) e c j =
-        let q : ◌≡◌ {A = Result Chosen Refusal} (Ok (chosen ready i (get_or bs i no_batch).count (counted (get_or bs i no_batch)))) (Ok c) = (first_ok ((leb (2 ^ 32 - 1) (get_or bs i no_batch).count, TableFull) ∷ []) (Ok (chosen ready i (get_or bs i no_batch).count (counted (get_or bs i no_batch)))) c j).1 in
-        let eq : chosen ready i (get_or bs i no_batch).count (counted (get_or bs i no_batch)) ≡ c = cc in
-        subst (After (w ∷ [])) eq (keeps_joined i (finds ready.key (take s.batches bs) (Some i) e))
+    keeps_found (Some i) e c j = subst (After (w ∷ [])) (joined_as ready s.batches bs (Some i) c j) (keeps_joined i (finds ready.key (take s.batches bs) (Some i) e))
     keeps_found None e c j =
-        let ok = first_ok ((leb (length bs) s.batches, TableFull) ∷ []) (Ok (chosen ready s.batches 0 (opened ready.key))) c j in
-        let q : ◌≡◌ {A = Result Chosen Refusal} (Ok (chosen ready s.batches 0 (opened ready.key))) (Ok c) = ok.1 in
-        let eq : chosen ready s.batches 0 (opened ready.key) ≡ c = cc in
-        subst (After (w ∷ [])) eq (keeps_opened (finds ready.key (take s.batches bs) None e) (leb-false (length bs) s.batches ok.0.0))
+        let k = joined_as ready s.batches bs None c j in
+        subst (After (w ∷ [])) k.1 (keeps_opened (finds ready.key (take s.batches bs) None e) k.0)
 
   keeps_accepted : (vs : List Wanted) (c : Chosen) → Accepted t s ds bs vs c → After vs c
   keeps_accepted vs c a =

@@ -6,10 +6,11 @@ use Rattle.command.specs.Refusals.{number_of}
 use Rattle.command.specs.declared.refusal.Refusal.{Refusal}
 use Rattle.command.specs.declared.settings.Settings.{Settings}
 use Rattle.command.specs.declared.sizes.Sizes.{Sizes}
-use Rattle.batcher.specs.Judged.{Batching, Terms}
+use Rattle.places.specs.Counts.{Counts}
+use Rattle.batcher.specs.Judged.{Batching, Recording, Terms}
 use Rattle.plan.specs.Planned.{batches_after, plan_answer}
 use Rattle.plan.specs.declared.frame.FramePlan.{FramePlan}
-use Rattle.sheet.specs.Frames.{Recording, answer_of, fresh, recorded, recorded_all}
+use Rattle.sheet.specs.Frames.{answer_of, fresh, recorded, recorded_all}
 use Rattle.frame_exports.specs.Records.{batch_told, line_of, record_told}
 use Rattle.frame_exports.specs.Subranges.{place_told}
 use Rattle.frame_exports.specs.declared.frames.FrameCounts.{FrameCounts}
@@ -20,7 +21,7 @@ use Rattle.frame_exports.specs.declared.records.Request.{Request}
 use Rattle.frame_exports.specs.declared.subranges.Place.{Place}
 
 -- the answers to requests, each after the one before
-unfoldable pub answers_told : Terms → List ℕ → Recording → List Request → List Place
+unfoldable pub answers_told : Terms → List ℕ → Recording Counts → List Request → List Place
 answers_told t sources f [] = []
 answers_told t sources f (q ∷ qs) = place_told (answer_of t sources f (line_of q)) ∷ answers_told t sources (recorded t sources f (line_of q)) qs
 
@@ -31,21 +32,21 @@ abbrev pub terms_for : FrameSettings → Terms
 terms_for q = record { alignment = q.alignment; largest = q.largest_binding; room = q.buffer_size; src = src_stride; dst = dst_stride }
 
 -- what stands after all requests
-abbrev pub frame_of : FrameSettings → List ℕ → List Request → Recording
+abbrev pub frame_of : FrameSettings → List ℕ → List Request → Recording Counts
 frame_of q sources qs = recorded_all (terms_for q) sources fresh (map line_of qs)
 
 -- over 256 metadata buffers
-abbrev pub plan_of : ℕ → ℕ → Recording → Result FramePlan Refusal
+abbrev pub plan_of : ℕ → ℕ → Recording Counts → Result FramePlan Refusal
 plan_of block room f = plan_answer block room f.batching.batches f.batches 256
 
 -- each output is written from its start, and what follows stays
 abbrev pub answers_written : FrameSettings → List ℕ → List Request → List Place → List Place
 answers_written q sources qs old = answers_told (terms_for q) sources fresh qs ++ drop (length qs) old
 
-abbrev pub draws_written : Recording → List DrawRecord → List DrawRecord
+abbrev pub draws_written : Recording Counts → List DrawRecord → List DrawRecord
 draws_written f old = map record_told (take f.batching.draws f.draws) ++ drop f.batching.draws old
 
-abbrev pub batches_written : ℕ → ℕ → Recording → List BatchRecord → List BatchRecord
+abbrev pub batches_written : ℕ → ℕ → Recording Counts → List BatchRecord → List BatchRecord
 batches_written block room f old = map batch_told (take f.batching.batches (batches_after block room f.batching.batches (plan_of block room f) f.batches)) ++ drop f.batching.batches old
 
 -- a plan that is refused has neither blocks nor buffers

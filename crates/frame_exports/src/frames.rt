@@ -1,5 +1,5 @@
 ghost use Rattle.std.specs.Prelude.{◌≡◌, ℕ, ◌≤◌, min, ◌&&◌, ◌++◌, map, length, drop, is_ok, if◌then◌else◌, MatchResult};
-ghost use Rattle.batcher.specs.Judged.{terms};
+ghost use Rattle.batcher.specs.Judged.{frame_terms};
 ghost use Rattle.batcher.specs.View.{batching};
 ghost use Rattle.frame_exports.specs.Frames.{answers_told, answers_written, batches_written, counts_told, draws_written, enough, frame_of, frame_status, lawful_frame, plan_of, plan_status, settings_told};
 ghost use Rattle.frame_exports.specs.Records.{line_of};
@@ -12,11 +12,12 @@ use super::status::Failure;
 use super::subranges::Place;
 use batcher::batcher::DrawBatcher;
 use batcher::records::{DrawIndirectValidationBatch, IndirectDraw};
+use batcher::tables::Tables;
+use batcher::terms::FrameTerms;
 use command::refusal::Refusal;
 use command::settings::Settings;
 use command::sizes::Sizes;
 use page::line::DrawLine;
-use places::counted::Counted;
 use plan::frame::FramePlan;
 use sheet::frame::Frame;
 
@@ -51,23 +52,16 @@ pub struct FrameCounts {
 
 // Records the requests, and writes each answer. It stands on those before, so that this is no conversion of items.
 #[tactic(auto, unfolding(crate::specs::Frames::answers_told, sheet::specs::Frames::recorded_all))]
-fn put_answers(
-    frame: &mut Frame,
-    draws: &mut [IndirectDraw],
-    batches: &mut [DrawIndirectValidationBatch],
-    sources: &[u64],
-    requests: &[Request],
-    answers: &mut [Place],
-)
+fn put_answers(frame: &mut Frame, sources: &[u64], requests: &[Request], answers: &mut [Place])
     requires { length requests.now ≤ length answers.old }
-    ensures answers { answers.new ≡ answers_told (terms frame.old.settings frame.old.sizes) sources.now (recording_of frame.old draws.old batches.old) requests.now ++ drop (length requests.now) answers.old }
-    ensures after { recording_of frame.new draws.new batches.new ≡ recorded_all (terms frame.old.settings frame.old.sizes) sources.now (recording_of frame.old draws.old batches.old) (map line_of requests.now) }
-    ensures sizes { frame.new.sizes ≡ frame.old.sizes }
+    ensures answers { answers.new ≡ answers_told (frame_terms frame.old.terms) sources.now (recording_of frame.old) requests.now ++ drop (length requests.now) answers.old }
+    ensures after { recording_of frame.new ≡ recorded_all (frame_terms frame.old.terms) sources.now (recording_of frame.old) (map line_of requests.now) }
+    ensures terms { frame.new.terms ≡ frame.old.terms }
 {
     // By index: after a `zip` with `iter_mut` a proof does not know what was written.
     for (i, request) in requests.iter().enumerate() {
         let line = DrawLine::from(*request);
-        let answer = frame.record(draws, batches, sources, &line);
+        let answer = frame.record(sources, &line);
         answers[i] = Place::from(answer);
     }
 }
@@ -92,39 +86,37 @@ fn status_of(plan: &Result<FramePlan, Refusal>) -> u32
 {
     match plan {
         Ok(_) => 0,
-        Err(refusal) => refusal.number() as u32,
+        Err(refusal) => u32::from(refusal.number()),
     }
 }
 
 // Plans what was recorded, and writes the records of both tables. The status is the plan's.
 fn put_plan(
-    frame: &Frame,
-    draw_table: &[IndirectDraw],
-    batch_table: &mut [DrawIndirectValidationBatch],
+    frame: &mut Frame,
     draws: &mut [DrawRecord],
     batches: &mut [BatchRecord],
     counts: &mut FrameCounts,
 ) -> u32
-    requires table { frame.now.batcher.draws ≤ length draw_table.now }
-    requires tables { frame.now.batcher.batches ≤ length batch_table.old }
-    requires draws { frame.now.batcher.draws ≤ length draws.old }
-    requires batches { frame.now.batcher.batches ≤ length batches.old }
-    ensures status { result ≡ plan_status (plan_of frame.now.sizes.block frame.now.sizes.buffer (recording_of frame.now draw_table.now batch_table.old)) }
-    ensures draws { draws.new ≡ draws_written (recording_of frame.now draw_table.now batch_table.old) draws.old }
-    ensures batches { batches.new ≡ batches_written frame.now.sizes.block frame.now.sizes.buffer (recording_of frame.now draw_table.now batch_table.old) batches.old }
-    ensures counts { counts.new ≡ counts_told (batching frame.now.batcher) (plan_of frame.now.sizes.block frame.now.sizes.buffer (recording_of frame.now draw_table.now batch_table.old)) }
+    requires table { frame.old.batcher.draws ≤ length frame.old.tables.draws.now }
+    requires tables { frame.old.batcher.batches ≤ length frame.old.tables.batches.now }
+    requires draws { frame.old.batcher.draws ≤ length draws.old }
+    requires batches { frame.old.batcher.batches ≤ length batches.old }
+    ensures status { result ≡ plan_status (plan_of frame.old.terms.sizes.block frame.old.terms.sizes.buffer (recording_of frame.old)) }
+    ensures draws { draws.new ≡ draws_written (recording_of frame.old) draws.old }
+    ensures batches { batches.new ≡ batches_written frame.old.terms.sizes.block frame.old.terms.sizes.buffer (recording_of frame.old) batches.old }
+    ensures counts { counts.new ≡ counts_told (batching frame.old.batcher) (plan_of frame.old.terms.sizes.block frame.old.terms.sizes.buffer (recording_of frame.old)) }
 {
-    let plan = frame.plan(batch_table);
-    put_each(&draw_table[0..frame.batcher.draws()], draws);
-    put_each(&batch_table[0..frame.batcher.batches()], batches);
+    let plan = frame.plan();
+    put_each(frame.draws(), draws);
+    put_each(frame.batches(), batches);
     *counts = counts_of(&frame.batcher, &plan);
     status_of(&plan)
 }
 
-// The settings and sizes that a frame is planned by, or the status where they are not lawful or outputs are short.
-fn read_settings(settings: &FrameSettings, room: bool) -> Result<(Settings, Sizes), Failure>
+// The terms that a frame is planned by, or why they are not lawful, or that outputs are short.
+fn read_settings(settings: &FrameSettings, room: bool) -> Result<FrameTerms, Failure>
     ensures accepted { is_ok result ≡ (lawful_frame settings.now && room) }
-    ensures value { MatchResult result (λ p. settings_told p.0 p.1 ≡ settings.now) (λ e. ((s : ℕ) → failure_status e ≡ frame_status settings.now room s)) }
+    ensures value { MatchResult result (λ t. settings_told t.settings t.sizes ≡ settings.now) (λ e. ((s : ℕ) → failure_status e ≡ frame_status settings.now room s)) }
 {
     let device = Settings::new(settings.alignment, settings.largest_binding)?;
     let sizes = Sizes::new(settings.buffer_size, settings.block_size);
@@ -132,7 +124,10 @@ fn read_settings(settings: &FrameSettings, room: bool) -> Result<(Settings, Size
     if !room {
         return Err(Failure::ShortOutput);
     }
-    Ok((device, sizes))
+    Ok(FrameTerms {
+        settings: device,
+        sizes,
+    })
 }
 
 // Whether the outputs have room for what `requests` requests can give.
@@ -142,10 +137,9 @@ fn has_room(requests: usize, answers: usize, draws: usize, batches: usize) -> bo
     requests <= answers && requests <= draws && requests.min(MOST_BATCHES) <= batches
 }
 
-// Records and plans a frame of lawful settings, and writes all of it. The status is the plan's.
+// Records and plans a frame of lawful terms, and writes all of it. The status is the plan's.
 fn put_frame(
-    settings: Settings,
-    sizes: Sizes,
+    terms: FrameTerms,
     sources: &[u64],
     requests: &[Request],
     answers: &mut [Place],
@@ -156,36 +150,21 @@ fn put_frame(
     requires answers { length requests.now ≤ length answers.old }
     requires draws { length requests.now ≤ length draws.old }
     requires batches { min (length requests.now) 256 ≤ length batches.old }
-    ensures status { result ≡ plan_status (plan_of sizes.block sizes.buffer (frame_of (settings_told settings sizes) sources.now requests.now)) }
-    ensures answers { answers.new ≡ answers_written (settings_told settings sizes) sources.now requests.now answers.old }
-    ensures draws { draws.new ≡ draws_written (frame_of (settings_told settings sizes) sources.now requests.now) draws.old }
-    ensures batches { batches.new ≡ batches_written sizes.block sizes.buffer (frame_of (settings_told settings sizes) sources.now requests.now) batches.old }
-    ensures counts { counts.new ≡ counts_told (frame_of (settings_told settings sizes) sources.now requests.now).batching (plan_of sizes.block sizes.buffer (frame_of (settings_told settings sizes) sources.now requests.now)) }
+    ensures status { result ≡ plan_status (plan_of terms.sizes.block terms.sizes.buffer (frame_of (settings_told terms.settings terms.sizes) sources.now requests.now)) }
+    ensures answers { answers.new ≡ answers_written (settings_told terms.settings terms.sizes) sources.now requests.now answers.old }
+    ensures draws { draws.new ≡ draws_written (frame_of (settings_told terms.settings terms.sizes) sources.now requests.now) draws.old }
+    ensures batches { batches.new ≡ batches_written terms.sizes.block terms.sizes.buffer (frame_of (settings_told terms.settings terms.sizes) sources.now requests.now) batches.old }
+    ensures counts { counts.new ≡ counts_told (frame_of (settings_told terms.settings terms.sizes) sources.now requests.now).batching (plan_of terms.sizes.block terms.sizes.buffer (frame_of (settings_told terms.settings terms.sizes) sources.now requests.now)) }
 {
     let mut draw_table = [IndirectDraw::empty(); MOST_DRAWS];
     let mut batch_table = [DrawIndirectValidationBatch::empty(); MOST_BATCHES];
-    let mut frame = Frame {
-        settings,
-        sizes,
-        batcher: DrawBatcher::new(),
-        destinations: Counted::new(MOST_BATCHES),
+    let tables = Tables {
+        draws: &mut draw_table,
+        batches: &mut batch_table,
     };
-    put_answers(
-        &mut frame,
-        &mut draw_table,
-        &mut batch_table,
-        sources,
-        requests,
-        answers,
-    );
-    put_plan(
-        &frame,
-        &draw_table,
-        &mut batch_table,
-        draws,
-        batches,
-        counts,
-    )
+    let mut frame = Frame::with_terms(terms, tables);
+    put_answers(&mut frame, sources, requests, answers);
+    put_plan(&mut frame, draws, batches, counts)
 }
 
 /// Records requests for indirect draws over sources of given sizes, plans the frame, and writes the answers, the
@@ -206,11 +185,8 @@ pub fn jorumspit_frame(
     ensures counts { counts.new ≡ (if lawful_frame settings.now && enough (length requests.now) (length answers.old) (length draws.old) (length batches.old) then counts_told (frame_of settings.now sources.now requests.now).batching (plan_of settings.now.block_size settings.now.buffer_size (frame_of settings.now sources.now requests.now)) else counts.old) }
 {
     let room = has_room(requests.len(), answers.len(), draws.len(), batches.len());
-    let (device, sizes) = match read_settings(settings, room) {
-        Ok(read) => read,
-        Err(failure) => return u32::from(failure),
-    };
-    put_frame(
-        device, sizes, sources, requests, answers, draws, batches, counts,
-    )
+    match read_settings(settings, room) {
+        Ok(terms) => put_frame(terms, sources, requests, answers, draws, batches, counts),
+        Err(failure) => u32::from(failure),
+    }
 }

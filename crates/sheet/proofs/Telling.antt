@@ -68,7 +68,7 @@ module _ (t : Terms) (ss : List ℕ) where
   long_step f d (Err r) = refl
   long_step f d (Ok c) = length-set f.batches c.draw.batch c.batch
 
-  long : (f : Recording Counts) (ds : List DrawLine) → length (recorded_all t ss f ds).batches ≡ length f.batches
+  pub long : (f : Recording Counts) (ds : List DrawLine) → length (recorded_all t ss f ds).batches ≡ length f.batches
   unfolding recorded_all
   long f [] = refl
   long f (d ∷ ds) = long (recorded t ss f d) ds ∙ long_step f d (outcome_of t ss f d)

@@ -1,5 +1,5 @@
 use Rattle.std.proofs.Common.{◌≡◌, ◌++◌, map, length, take, drop}
-use Rattle.batcher.specs.Judged.{terms}
+use Rattle.batcher.specs.Judged.{frame_terms}
 use Rattle.sheet.specs.Frames.{recorded_all}
 use Rattle.sheet.specs.View.{recording_of}
 use Rattle.frame_exports.specs.Frames.{answers_told}
@@ -8,8 +8,7 @@ use Rattle.frame_exports.proofs.frames.put_answers.Given as goal
 
 abbrev pub invariant-loop-i : goal.invariant-loop-i
 invariant-loop-i l =
-    (take l.i l.answers ++ answers_told (terms l.initial.frame.settings l.initial.frame.sizes) l.sources (recording_of l.frame l.draws l.batches) (drop l.i l.requests) ≡ answers_told (terms l.initial.frame.settings l.initial.frame.sizes) l.sources (recording_of l.initial.frame l.initial.draws l.initial.batches) l.requests)
+    (take l.i l.answers ++ answers_told (frame_terms l.initial.frame.terms) l.sources (recording_of l.frame) (drop l.i l.requests) ≡ answers_told (frame_terms l.initial.frame.terms) l.sources (recording_of l.initial.frame) l.requests)
     × (drop (length l.requests) l.answers ≡ drop (length l.requests) l.initial.answers)
-    × (recorded_all (terms l.initial.frame.settings l.initial.frame.sizes) l.sources (recording_of l.frame l.draws l.batches) (map line_of (drop l.i l.requests)) ≡ recorded_all (terms l.initial.frame.settings l.initial.frame.sizes) l.sources (recording_of l.initial.frame l.initial.draws l.initial.batches) (map line_of l.requests))
-    × (l.frame.settings ≡ l.initial.frame.settings)
-    × (l.frame.sizes ≡ l.initial.frame.sizes)
+    × (recorded_all (frame_terms l.initial.frame.terms) l.sources (recording_of l.frame) (map line_of (drop l.i l.requests)) ≡ recorded_all (frame_terms l.initial.frame.terms) l.sources (recording_of l.initial.frame) (map line_of l.requests))
+    × (l.frame.terms ≡ l.initial.frame.terms)
