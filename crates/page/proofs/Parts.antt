@@ -1,7 +1,7 @@
 -- steps of the loops that read a number, cut a text and follow a word
-use Rattle.std.proofs.Common.{◌≡◌, ℕ, ◌+◌, ◌-◌, ◌*◌, ◌^◌, ◌<◌, ◌≤◌, Bool, true, false, ◌&&◌, List, zero, suc, [], ◌∷◌, ◌++◌, length, eqb, get_or, take, drop, Some, None, Option, Bor, refl, sym, subst, ap, ◌∙◌, pow-suc, add-one, arith}
+use Rattle.std.proofs.Common.{◌≡◌, ℕ, ◌+◌, ◌-◌, ◌*◌, ◌^◌, ◌<◌, ◌≤◌, Bool, true, false, ◌&&◌, List, zero, suc, [], ◌∷◌, ◌++◌, length, eqb, leb, get_or, take, drop, Some, None, Option, Bor, refl, sym, subst, ap, ◌∙◌, pow-suc, add-one, arith}
 use Rattle.std.proofs.lemmas.List.{drop_more, drop_all, take-append-drop, take_all, take_rest}
-use Rattle.std.proofs.lemmas.Bool.{and_from, and_parts, cond-true, cond_both, false≢true}
+use Rattle.std.proofs.lemmas.Bool.{and_from, and_parts, cond-true, le-leb, cond_both, false≢true}
 use Rattle.std.proofs.lemmas.Bool.Decides.{nat_tests}
 use Rattle.std.specs.Cmp.Lexicographic.{pointwise}
 use Rattle.std.specs.List.{AllWithin, HoldsAt}
@@ -39,8 +39,10 @@ value_end v xs i h = ap (value_after v) (drop_all i xs h)
 pub not_digits : (bs : List ℕ) → digits_only bs ≡ false → None ≡ number_of bs
 not_digits bs h = grind (arith, nat_tests)
 
-pub as_number : (bs : List ℕ) (v : ℕ) (r : Option ℕ) → number_length (length bs) ≡ true → digits_only bs ≡ true → v ≡ value_after 0 bs → r ≡ below_bound v → r ≡ number_of bs
-as_number bs v r l d e k = k ∙ ap below_bound e ∙ sym (cond-true (number_length (length bs) && digits_only bs) _ _ (and_from (number_length (length bs)) (digits_only bs) l d))
+pub as_number : (bs : List ℕ) (v : ℕ) (r : Option ℕ) → 1 ≤ length bs → length bs ≤ 20 → digits_only bs ≡ true → v ≡ value_after 0 bs → r ≡ below_bound v → r ≡ number_of bs
+as_number bs v r some most d e k =
+    let l : number_length (length bs) ≡ true = and_from (leb 1 (length bs)) (leb (length bs) 20) (le-leb 1 (length bs) some) (le-leb (length bs) 20 most) in
+    k ∙ ap below_bound e ∙ sym (cond-true (number_length (length bs) && digits_only bs) _ _ (and_from (number_length (length bs)) (digits_only bs) l d))
 
 -- nothing but b, from place i on
 pub free_until : (b i : ℕ) (xs : List ℕ) → ((k d : ℕ) → 0 ≤ k → k < i → eqb (get_or xs k d) b ≡ false) → Free b (take i xs)

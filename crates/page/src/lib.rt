@@ -10,7 +10,7 @@
 //
 // A number has 1 to 20 decimal digits and is below 2^64. Nothing else stands in a line: no space, sign or carriage
 // return. A text that is no sheet is bad at its first line that is none of these or out of order, or, where it ends
-// too soon, at the line that is missing. Lines count from 1; a longer text is bad at line 0.
+// too soon, at the line that is missing. Lines count from 1. A text with more bytes is too long, whatever it says.
 #![tactic(auto)]
 
 pub mod line;

@@ -10,7 +10,7 @@ const LARGEST_SOURCE: u64 = 4_294_967_295;
 
 /// The numbers of a draw's line, in their order. Each may be any number, the kind too: the line has the form of a draw
 /// all the same, and the draw is refused when it is recorded.
-#[derive(Clone, Copy, PartialEq, Eq)]
+#[derive(Clone, Copy)]
 pub struct DrawLine {
     pub kind: u64,
     pub source: u64,
@@ -20,7 +20,7 @@ pub struct DrawLine {
 }
 
 /// A line of a sheet.
-#[derive(Clone, Copy, PartialEq, Eq)]
+#[derive(Clone, Copy)]
 pub enum Line {
     Align(u64),
     Binding(u64),

@@ -21,4 +21,4 @@ returns c =
     let xs : List ℕ = c.args.text.now in
     let i : ℕ = c.loop-byte.byte-index in
     let end : length xs ≤ i = c.loop-byte-test.false in
-    as_number xs c.loop-byte.value c.ok.result (grind (arith, nat_tests)) (c.loop-byte.invariant.1 ∙ digits_end xs i end) (sym (value_end c.loop-byte.value xs i end) ∙ c.loop-byte.invariant.0) (grind (arith, nat_tests))
+    as_number xs c.loop-byte.value c.ok.result (grind (arith, nat_tests)) (grind (arith, nat_tests)) (c.loop-byte.invariant.1 ∙ digits_end xs i end) (sym (value_end c.loop-byte.value xs i end) ∙ c.loop-byte.invariant.0) (grind (arith, nat_tests))
