@@ -79,6 +79,7 @@ fn bind_slots(bindings: &mut Bindings, slots: &[Slot]) -> Result<(), Refusal>
     ensures { through result (bound bindings.new) ≡ slots_bound 0 slots.now (bound bindings.old) }
 {
     for (number, slot) in slots.iter().enumerate() {
+        // A slot is asked for by its number; Rust has no From from a usize.
         bind_slot(bindings, number as u64, slot)?;
     }
     Ok(())

@@ -45,6 +45,7 @@ impl From<Entry> for MetadataEntry {
 }
 
 /// The words that the check of an entry leaves.
+// C has no vector: five places, and how many of them are the draw's.
 #[repr(C)]
 #[derive(Clone, Copy)]
 pub struct Verdict {
@@ -72,7 +73,7 @@ impl From<Arguments> for Verdict {
     }
 }
 
-// The entry of a draw, where its kind and its offsets have one.
+// The entry of a draw of these numbers of C, where its kind and its offsets have one.
 fn pack(
     kind: u64,
     src_offset: u64,

@@ -1,4 +1,4 @@
-// What a call answers where it is neither accepted, which is 0, nor refused, which is the refusal's number.
+// What a call answers, since C has no Result: 0 where it is accepted, the refusal's number where it is refused, else these.
 ghost use Rattle.exports.specs.Status.{status_of, told, status_told};
 ghost use Rattle.exports.specs.declared.status.Failure.TheVariants.{Refused};
 ghost use Rattle.std.specs.Prelude.{◌≡◌};

@@ -96,6 +96,7 @@ impl VertexLimits {
             let Some(limit) = own_limit(step, range.size()) else {
                 continue;
             };
+            // No slot is past the sixteenth, so that the cast loses nothing; Rust has no From from a usize.
             match step.mode {
                 VertexStepMode::Vertex => vertex.lower(i as u32, limit),
                 VertexStepMode::Instance => instance.lower(i as u32, limit),
@@ -109,6 +110,7 @@ impl VertexLimits {
         }
     }
 
+    // Two functions, named as in wgpu-core; what they compare is one.
     /// Holds the vertices that a draw names to the limit.
     pub(crate) fn validate_vertex_limit(&self, args: DrawArgs) -> Result<(), Refusal>
         ensures { result ≡ vertex_within self.now (args.first + args.count) }
