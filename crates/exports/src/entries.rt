@@ -1,9 +1,9 @@
 ghost use Rattle.entry.specs.Entries.{unpacked};
 ghost use Rattle.entry.specs.Verdicts.{argument_family, argument_words, verdict as checks};
-ghost use Rattle.exports.specs.Entries.{entry_answer, entry_status, entry_written, metadata_of, verdict_answer, verdict_of, verdict_status, verdict_written, words_of};
-ghost use Rattle.std.specs.Prelude.{◌≡◌, not, nat_eq};
+ghost use Rattle.exports.specs.Entries.{entry_answer, metadata_of, verdict_answer, verdict_of, words_of};
+ghost use Rattle.std.specs.Prelude.{◌≡◌};
 
-use super::status::{Failure, give};
+use super::status::Failure;
 use command::family::DrawCommandFamily;
 use entry::metadata::MetadataEntry;
 use entry::validate::Arguments;
@@ -73,8 +73,9 @@ impl From<Arguments> for Verdict {
     }
 }
 
-// The entry of a draw of these numbers of C, where its kind and its offsets have one.
-fn pack(
+/// Packs a draw into an entry. A kind other than 0 and 1 is refused, then a wide offset has no entry.
+// A kind is a number here, since a host may name one that there is not.
+pub fn pack_entry(
     kind: u64,
     src_offset: u64,
     dst_offset: u64,
@@ -89,43 +90,16 @@ fn pack(
     packed.map(Entry::from).ok_or(Failure::WideOffset)
 }
 
-/// Packs a draw into an entry. Status 7 for a kind other than 0 and 1, then 65 for a wide offset.
-pub fn jorumspit_entry(
-    kind: u64,
-    src_offset: u64,
-    dst_offset: u64,
-    limit: u64,
-    instance_limit: u64,
-    entry: &mut Entry,
-) -> u32
-    ensures status { result ≡ entry_status kind src_offset dst_offset }
-    ensures written { entry.new ≡ entry_written kind src_offset dst_offset limit instance_limit entry.old }
-{
-    let packed = pack(kind, src_offset, dst_offset, limit, instance_limit);
-    give(packed, entry)
-}
-
-// The words that the check of an entry leaves, where its window holds them.
-fn check(entry: Entry, window: &[u32], first_instance_allowed: bool) -> Result<Verdict, Failure>
+/// Checks an entry against the words of its window, which it may not read outside of.
+pub fn check_entry(
+    entry: Entry,
+    window: &[u32],
+    first_instance_allowed: bool,
+) -> Result<Verdict, Failure>
     ensures { result ≡ verdict_answer (unpacked (metadata_of entry)).family (checks first_instance_allowed (unpacked (metadata_of entry)) window.now) }
 {
     MetadataEntry::from(entry)
         .validate(window, first_instance_allowed)
         .map(Verdict::from)
         .ok_or(Failure::OutsideWindow)
-}
-
-/// Checks an entry against the words of its window. A flag of 0 allows no first instance but 0.
-/// Status 64 where the entry reads outside the window.
-pub fn jorumspit_verdict(
-    entry: &Entry,
-    window: &[u32],
-    first_instance_allowed: u32,
-    verdict: &mut Verdict,
-) -> u32
-    ensures status { result ≡ verdict_status (checks (not (nat_eq first_instance_allowed 0)) (unpacked (metadata_of entry.now)) window.now) }
-    ensures written { verdict.new ≡ verdict_written (unpacked (metadata_of entry.now)).family (checks (not (nat_eq first_instance_allowed 0)) (unpacked (metadata_of entry.now)) window.now) verdict.old }
-{
-    // C has a flag for whether other first instances are allowed.
-    give(check(*entry, window, first_instance_allowed != 0), verdict)
 }

@@ -1,7 +1,7 @@
 ghost use Rattle.command.specs.Checks.{and_then};
 ghost use Rattle.command.specs.Refusals.{report_of};
-ghost use Rattle.exports.specs.Bound.{all_bound, host_bound, index_bound, pipeline_steps, slots_and_steps};
-ghost use Rattle.exports.specs.Limits.{args_of, draw_judged, draw_written, index_written, limits_told, limits_written, refusal_told, result_status};
+ghost use Rattle.exports.specs.Bound.{host_bound, index_bound};
+ghost use Rattle.exports.specs.Limits.{args_of, draw_judged, draw_written, limits_told, refusal_told, result_status};
 ghost use Rattle.exports.specs.Status.{refused};
 ghost use Rattle.render.specs.Bound.{Bound, unbound};
 ghost use Rattle.render.specs.Limits.{index_limit_of, limits_of};
@@ -9,7 +9,7 @@ ghost use Rattle.std.specs.Option.{option_copied};
 ghost use Rattle.std.specs.Prelude.{◌≡◌};
 
 use super::bound::{Index, Slot, Step, bind, bind_index};
-use super::status::{Failure, give};
+use super::status::Failure;
 use command::args::DrawArgs;
 use command::refusal::Refusal;
 use render::bindings::Bindings;
@@ -97,32 +97,16 @@ impl From<Refusal> for Report {
     }
 }
 
-// The steps, where there is a pipeline: C has a flag for it.
-fn steps_of(pipeline: u64, steps: &[Step]) -> Option<&[Step]>
-    ensures { option_copied result ≡ pipeline_steps pipeline steps.now }
-{
-    (pipeline != 0).then_some(steps)
-}
-
-// The limits of what is bound.
-fn find_limits(slots: &[Slot], steps: Option<&[Step]>) -> Result<Limits, Failure>
+/// The limits of a pipeline's steps over the slots; all 0 where there is no pipeline.
+pub fn find_limits(slots: &[Slot], steps: Option<&[Step]>) -> Result<Limits, Failure>
     ensures { result ≡ refused (λ b. limits_told (limits_of b)) (host_bound slots.now (option_copied steps.entry)) }
 {
     let bindings = bind(slots, steps)?;
     Ok(Limits::from(bindings.limits()))
 }
 
-/// The limits of a pipeline's steps over the slots; all 0 where there is no pipeline.
-#[tactic(auto, using(crate::proofs::Telling::status_refused))]
-pub fn jorumspit_limits(slots: &[Slot], pipeline: u64, steps: &[Step], limits: &mut Limits) -> u32
-    ensures status { result ≡ result_status (slots_and_steps slots.now pipeline steps.now) }
-    ensures written { limits.new ≡ limits_written (slots_and_steps slots.now pipeline steps.now) limits.old }
-{
-    give(find_limits(slots, steps_of(pipeline, steps)), limits)
-}
-
-// How many indices the range has.
-fn find_index_limit(index: &Index) -> Result<u64, Failure>
+/// How many indices of `bytes` a range has; 0 where none is bound.
+pub fn find_index_limit(index: &Index) -> Result<u64, Failure>
     ensures { result ≡ refused index_limit_of (index_bound index.now unbound) }
 {
     let mut bindings = Bindings::new();
@@ -130,16 +114,8 @@ fn find_index_limit(index: &Index) -> Result<u64, Failure>
     Ok(bindings.index_limit())
 }
 
-/// How many indices of `bytes` a range has; 0 where none is bound.
-pub fn jorumspit_index_limit(index: &Index, limit: &mut u64) -> u32
-    ensures status { result ≡ result_status (index_bound index.now unbound) }
-    ensures written { limit.new ≡ index_written (index_bound index.now unbound) limit.old }
-{
-    give(find_index_limit(index), limit)
-}
-
-// Judges a draw over what is bound: slots, then steps, then the index range.
-fn judge(
+/// Judges a direct draw over what is bound: slots, then steps, then the index range. Answers whether anything is drawn.
+pub fn judge_draw(
     slots: &[Slot],
     steps: Option<&[Step]>,
     index: &Index,
@@ -152,19 +128,12 @@ fn judge(
     bindings.check_draw(draw.kind, DrawArgs::from(*draw))
 }
 
-/// Judges a direct draw over what is bound. The report is written whatever the status is.
-pub fn jorumspit_draw(
-    slots: &[Slot],
-    pipeline: u64,
-    steps: &[Step],
-    index: &Index,
-    draw: &Draw,
-    report: &mut Report,
-) -> u32
-    ensures status { result ≡ result_status (draw_judged (all_bound slots.now pipeline steps.now index.now) draw.now) }
-    ensures written { report.new ≡ draw_written (draw_judged (all_bound slots.now pipeline steps.now index.now) draw.now) }
+/// Writes what was judged of a draw, whatever it is, and answers its status.
+pub fn give_report(judged: Result<bool, Refusal>, report: &mut Report) -> u32
+    ensures status { result ≡ result_status judged }
+    ensures written { report.new ≡ draw_written judged }
 {
-    match judge(slots, steps_of(pipeline, steps), index, draw) {
+    match judged {
         Ok(any) => {
             *report = Report {
                 draws: u64::from(any),
@@ -174,7 +143,7 @@ pub fn jorumspit_draw(
         }
         Err(refusal) => {
             *report = Report::from(refusal);
-            Failure::from(refusal).status()
+            u32::from(refusal.number())
         }
     }
 }

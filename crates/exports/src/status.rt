@@ -1,24 +1,18 @@
-// What a call answers, since C has no Result: 0 where it is accepted, the refusal's number where it is refused, else these.
-ghost use Rattle.exports.specs.Status.{status_of, told, status_told};
+// Why a call is not carried out, and the status that C has of it, since C has no Result.
+ghost use Rattle.exports.specs.Status.{status_of, status_told, told};
 ghost use Rattle.exports.specs.declared.status.Failure.TheVariants.{Refused};
 ghost use Rattle.std.specs.Prelude.{◌≡◌};
 
 use command::refusal::Refusal;
 
-/// An entry reads outside its window.
-pub const OUTSIDE_WINDOW: u32 = 64;
-
-/// An offset is 4,294,967,296 or more, so that there is no entry.
-pub const WIDE_OFFSET: u32 = 65;
-
-/// Why a call is not accepted.
+/// Why a call is not carried out.
 #[derive(Clone, Copy)]
-pub(crate) enum Failure {
-    /// A request was refused.
+pub enum Failure {
+    /// The library refuses it.
     Refused(Refusal),
     /// An entry reads outside its window.
     OutsideWindow,
-    /// An offset has no entry.
+    /// An offset is 4,294,967,296 or more, so that there is no entry.
     WideOffset,
 }
 
@@ -30,21 +24,21 @@ impl From<Refusal> for Failure {
     }
 }
 
-impl Failure {
-    /// The status by which a host knows the failure.
-    pub(crate) fn status(self) -> u32
-        ensures { result ≡ status_of self }
-    {
-        match self {
-            Failure::Refused(refusal) => u32::from(refusal.number()),
-            Failure::OutsideWindow => OUTSIDE_WINDOW,
-            Failure::WideOffset => WIDE_OFFSET,
+/// The status that a call answers: the refusal's number, or one that no refusal has.
+impl From<Failure> for u32 {
+    ghost from_gives = { λ failure status. status ≡ status_of failure };
+
+    fn from(failure: Failure) -> u32 {
+        match failure {
+            Failure::Refused(reason) => u32::from(reason.number()),
+            Failure::OutsideWindow => 64,
+            Failure::WideOffset => 65,
         }
     }
 }
 
 /// Writes what was found, and answers status 0; else answers that of the failure and writes nothing.
-pub(crate) fn give<T: Copy>(found: Result<T, Failure>, out: &mut T) -> u32
+pub fn give<T: Copy>(found: Result<T, Failure>, out: &mut T) -> u32
     ensures status { result ≡ status_told found }
     ensures written { out.new ≡ told found out.old }
 {
@@ -53,6 +47,6 @@ pub(crate) fn give<T: Copy>(found: Result<T, Failure>, out: &mut T) -> u32
             *out = value;
             0
         }
-        Err(failure) => failure.status(),
+        Err(failure) => u32::from(failure),
     }
 }

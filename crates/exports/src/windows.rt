@@ -1,8 +1,7 @@
-ghost use Rattle.command.specs.Lawful.{lawful};
-ghost use Rattle.exports.specs.Windows.{window_of, window_answer};
-ghost use Rattle.std.specs.Prelude.{◌≡◌, if◌then◌else◌};
+ghost use Rattle.exports.specs.Windows.{window_answer};
+ghost use Rattle.std.specs.Prelude.{◌≡◌};
 
-use super::status::{Failure, give};
+use super::status::Failure;
 use command::settings::Settings;
 use entry::window::{calculate_src_buffer_binding_size, calculate_src_offsets};
 
@@ -18,8 +17,8 @@ pub struct Window {
     pub offset: u64,
 }
 
-// The window that serves an offset, where the settings are lawful.
-fn find_window(
+/// The window that serves `offset` in a source of `size` bytes, where the settings are lawful.
+pub fn find_window(
     alignment: u64,
     largest_binding: u64,
     size: u64,
@@ -34,19 +33,4 @@ fn find_window(
         dynamic_offset: offsets.dynamic_offset,
         offset: offsets.offset,
     })
-}
-
-/// The window that serves `offset` in a source of `size` bytes. Status 1 where the settings are not lawful.
-pub fn jorumspit_window(
-    alignment: u64,
-    largest_binding: u64,
-    size: u64,
-    offset: u64,
-    window: &mut Window,
-) -> u32
-    ensures status { result ≡ (if lawful alignment largest_binding then 0 else 1) }
-    ensures written { window.new ≡ (if lawful alignment largest_binding then window_of alignment largest_binding size offset else window.old) }
-{
-    let found = find_window(alignment, largest_binding, size, offset);
-    give(found, window)
 }

@@ -3,7 +3,8 @@ ghost use Rattle.entry.specs.Verdicts.{verdict as checks};
 ghost use Rattle.exports.specs.Entries.{entry_status, entry_written, metadata_of, verdict_status, verdict_written};
 ghost use Rattle.std.specs.Prelude.{◌≡◌, not, nat_eq};
 
-use exports::entries::{Entry, Verdict};
+use exports::entries::{Entry, Verdict, check_entry, pack_entry};
+use exports::status::give;
 
 /// Packs a draw into an entry. Status 7 for a kind other than 0 and 1, then 65 for a wide offset.
 #[unsafe(no_mangle)]
@@ -18,7 +19,8 @@ pub extern "C" fn jorumspit_entry(
     ensures status { result ≡ entry_status kind src_offset dst_offset }
     ensures written { entry.new ≡ entry_written kind src_offset dst_offset limit instance_limit entry.old }
 {
-    exports::entries::jorumspit_entry(kind, src_offset, dst_offset, limit, instance_limit, entry)
+    let packed = pack_entry(kind, src_offset, dst_offset, limit, instance_limit);
+    give(packed, entry)
 }
 
 /// Checks an entry against the words of its window. A flag of 0 allows no first instance but 0.
@@ -33,5 +35,7 @@ pub extern "C" fn jorumspit_verdict(
     ensures status { result ≡ verdict_status (checks (not (nat_eq first_instance_allowed 0)) (unpacked (metadata_of entry.now)) window.now) }
     ensures written { verdict.new ≡ verdict_written (unpacked (metadata_of entry.now)).family (checks (not (nat_eq first_instance_allowed 0)) (unpacked (metadata_of entry.now)) window.now) verdict.old }
 {
-    exports::entries::jorumspit_verdict(entry, window, first_instance_allowed, verdict)
+    // C has a flag for whether other first instances are allowed.
+    let checked = check_entry(*entry, window, first_instance_allowed != 0);
+    give(checked, verdict)
 }

@@ -1,5 +1,5 @@
-// What a host in C links for windows, entries, limits and direct draws: each function is the one of the same
-// name in exports, under the same clauses: a crate is a library or a static library, not both, and C calls by name.
+// What a host in C links for windows, entries, limits and direct draws: each function calls one of exports, writes
+// what that one found and answers a status. It stands beside exports since a crate is a library or a static library.
 // include/jorumspit.h declares them.
 #![tactic(auto)]
 

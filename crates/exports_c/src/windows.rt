@@ -2,7 +2,8 @@ ghost use Rattle.command.specs.Lawful.{lawful};
 ghost use Rattle.exports.specs.Windows.{window_of};
 ghost use Rattle.std.specs.Prelude.{◌≡◌, if◌then◌else◌};
 
-use exports::windows::Window;
+use exports::status::give;
+use exports::windows::{Window, find_window};
 
 /// The window that serves `offset` in a source of `size` bytes. Status 1 where the settings are not lawful.
 #[unsafe(no_mangle)]
@@ -16,5 +17,6 @@ pub extern "C" fn jorumspit_window(
     ensures status { result ≡ (if lawful alignment largest_binding then 0 else 1) }
     ensures written { window.new ≡ (if lawful alignment largest_binding then window_of alignment largest_binding size offset else window.old) }
 {
-    exports::windows::jorumspit_window(alignment, largest_binding, size, offset, window)
+    let found = find_window(alignment, largest_binding, size, offset);
+    give(found, window)
 }
