@@ -10,6 +10,7 @@ mod judge;
 /// Accumulates what is needed to validate indirect draws; the records stand in tables that the caller keeps.
 #[derive(Clone, Copy)]
 pub struct DrawBatcher {
+    // Counts without their lists: the tables are lent to each call, since nothing is allocated.
     draws: usize,
     batches: usize,
     current: Option<CurrentEntry>,

@@ -42,6 +42,7 @@ pub struct IndirectDraw {
 /// A request for an indirect draw, with the limits of what is bound, from a sender who is not trusted.
 #[derive(Clone, Copy)]
 pub struct DrawRequest {
+    // A number, since any may be asked for.
     pub kind: u64,
     pub source: u64,
     /// The size of that source in bytes, or nothing where there is no such source.

@@ -14,6 +14,7 @@ pub enum DrawCommandFamily {
 }
 
 /// The family of a kind, or refusal 7 for a number that names none.
+// Modes of steps and widths of indices have such tables too: each has its own numbers and its own refusal.
 impl TryFrom<u64> for DrawCommandFamily {
     type Error = Refusal;
 

@@ -60,7 +60,7 @@ pub struct Report {
 }
 
 impl Refusal {
-    /// The number by which callers know the refusal.
+    /// The number by which callers know the refusal. A method and no `From`: it is asked of a refusal that stays.
     pub fn number(&self) -> u8
         ensures { result ≡ number_of self.now }
     {
@@ -91,24 +91,16 @@ impl Refusal {
     pub fn report(&self) -> Report
         ensures { result ≡ report_of self.now }
     {
-        let number = self.number();
-        match self {
+        let (beyond, slot) = match self {
             Refusal::VertexBeyondLimit(beyond, slot) | Refusal::InstanceBeyondLimit(beyond, slot) =>
-                Report {
-                    number,
-                    beyond: Some(*beyond),
-                    slot: Some(*slot),
-                },
-            Refusal::IndexBeyondLimit(beyond) => Report {
-                number,
-                beyond: Some(*beyond),
-                slot: None,
-            },
-            _ => Report {
-                number,
-                beyond: None,
-                slot: None,
-            },
+                (Some(*beyond), Some(*slot)),
+            Refusal::IndexBeyondLimit(beyond) => (Some(*beyond), None),
+            _ => (None, None),
+        };
+        Report {
+            number: self.number(),
+            beyond,
+            slot,
         }
     }
 }

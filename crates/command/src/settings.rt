@@ -19,7 +19,7 @@ impl Settings {
         ensures accepted { is_ok result ≡ lawful alignment largest_binding }
         ensures value { MatchResult result (λ s. (s.alignment ≡ alignment) × (s.largest_binding ≡ largest_binding)) (λ e. e ≡ Refusal.UnlawfulSettings) }
     {
-        let aligned = alignment == 32 || alignment == 64 || alignment == 128 || alignment == 256;
+        let aligned = matches!(alignment, 32 | 64 | 128 | 256);
         if !aligned || largest_binding < 2 * alignment + 20 || largest_binding > 4_294_967_295 {
             return Err(Refusal::UnlawfulSettings);
         }

@@ -13,7 +13,7 @@ pub struct BufferBarrier {
 pub struct BufferCopy {
     pub block: StagingBlock,
     pub src_offset: u64,
-    /// The pool buffer, by its number of making.
+    /// The pool buffer, by its number of making, as in the device interface.
     pub buffer: usize,
     pub dst_offset: u64,
     pub size: u64,

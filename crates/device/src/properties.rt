@@ -1,4 +1,5 @@
 /// What a device was made with; nothing changes it.
+// Numbers and no `Settings`: a device says what it has, and whoever uses it judges that.
 #[derive(Clone, Copy, PartialEq, Eq)]
 pub struct Properties {
     /// Windows over sources begin at multiples of this many bytes.

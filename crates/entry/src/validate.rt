@@ -75,6 +75,7 @@ impl Arguments {
     }
 }
 
+// Limits are cut when they are packed, so that each law is of all limits that are cut alike.
 impl Unpacked {
     /// Whether a draw keeps to both limits and to the rule on first instances.
     fn keeps(&self, first_instance_allowed: bool, args: DrawArgs) -> bool
@@ -102,6 +103,7 @@ impl Unpacked {
         ensures words { (l il : ℕ) → Alike self.now.vertex_or_index_limit l → Alike self.now.instance_limit il → words_of result ≡ checked first_instance_allowed self.now.family (self.now.src_offset / 4) l il window.now }
         ensures kind { (a : Arguments) → result ≡ Some a → argument_family a ≡ self.now.family }
     {
+        // Rust has no `From` of 64 bits into a usize.
         let words = window.get((self.src_offset / 4) as usize..)?;
         let arguments = Arguments::read(self.family, words)?;
         Some(self.judge(first_instance_allowed, arguments))

@@ -1,3 +1,4 @@
+use command::family::DrawCommandFamily;
 use command::refusal::Refusal;
 use command::settings::Settings;
 use places::counted::Counted;
@@ -42,6 +43,7 @@ impl Scene {
         bindings.set_steps(&[Some(RawStep {
             stride: VERTEX_BYTES,
             last_stride: VERTEX_BYTES,
+            // By vertex.
             mode: 0,
         })])?;
         let settings = Settings::new(ALIGNMENT, LARGEST_WINDOW)?;
@@ -58,15 +60,13 @@ impl Scene {
 
     /// Follows the order that stands in a buffer by itself; other first copies than 0 are not allowed.
     pub fn follow(&self, order: &[u32; 4]) -> Result<Followed, Refusal> {
-        let Ok(dst_offset) = u32::try_from(self.place.offset) else {
-            return Err(Refusal::NoBuffer);
-        };
+        let dst_offset = u32::try_from(self.place.offset).map_err(|_| Refusal::NoBuffer)?;
         let rules = Rules {
             settings: self.settings,
             first_instance_allowed: false,
         };
         let request = Request {
-            kind: 0,
+            kind: u64::from(DrawCommandFamily::Draw),
             source: Source {
                 size: ORDER_BYTES,
                 words: order,

@@ -2,6 +2,7 @@ use super::scene::{
     ALIGNMENT, BOUND_BYTES, BUFFER_BYTES, LARGEST_WINDOW, MOST_BUFFERS, ORDER_BYTES, Scene,
     VERTEX_BYTES,
 };
+use command::args::DrawArgs;
 use command::refusal::Refusal;
 use entry::metadata::MetadataEntry;
 use std::io;
@@ -121,9 +122,15 @@ fn tell_entry(rt: &HostRuntime, entry: &MetadataEntry) -> io::Result<()> {
 /// The sums that the check makes, and what it writes.
 pub fn tell_verdict(rt: &HostRuntime, followed: &Followed, order: &[u32; 4]) -> io::Result<()> {
     let [vertices, copies, first, first_copy] = *order;
+    let args = DrawArgs {
+        count: vertices,
+        instances: copies,
+        first,
+        first_instance: first_copy,
+    };
     let limit = followed.limits.vertex_or_index_limit;
-    let last = u64::from(first) + u64::from(vertices);
-    let last_copy = u64::from(first_copy) + u64::from(copies);
+    let last = args.last();
+    let last_copy = args.last_instance();
     let drawn = followed.arguments.words();
     println!(rt; "Vertices: {first} + {vertices} = {last}, and the limit is {limit}.")?;
     println!(rt; "Copies: {first_copy} + {copies} = {last_copy}, and they have no limit here.")?;

@@ -27,7 +27,7 @@ module _ (l : List ℕ) (ls : List (List ℕ)) (s : Stage) (n : ℕ) (p : Sheet)
 pub stopped : (l : List ℕ) (ls : List (List ℕ)) (e : ReadError) (p q : Parser) (r : Parsed) → Took l (Err e) p q → remaining (l ∷ ls) p ≡ r → Reads (Err e) r
 stopped l ls (Bad n) p q r h e = (sym e ∙ h.0 ls, omega (arith, h.1, p.from_one))
 stopped l ls TooLong p q r h e = absurd h
-stopped l ls Memory p q r h e = tt
+stopped l ls (Memory _) p q r h e = tt
 
 pub read_end : (p : Parser) → remaining [] p ≡ ended_at p.stage p.number (sheet_of p.page)
 unfolding read_on

@@ -19,4 +19,4 @@ abbrev pub Took : List ℕ → Result (Unit {0}) ReadError → Parser → Parser
 Took l (Ok u) p q = ((ls : List (List ℕ)) → remaining (l ∷ ls) p ≡ remaining ls q) × (q.number ≡ p.number + 1)
 Took l (Err (Bad n)) p q = ((ls : List (List ℕ)) → remaining (l ∷ ls) p ≡ bad n) × (n ≡ p.number)
 Took l (Err TooLong) p q = ⊥
-Took l (Err Memory) p q = Unit {0}
+Took l (Err (Memory _)) p q = Unit {0}

@@ -61,4 +61,4 @@ abbrev pub Reads : Result Page ReadError → Parsed → Type 0
 Reads (Ok p) q = q ≡ good (sheet_of p)
 Reads (Err (Bad n)) q = (q ≡ bad n) × (0 < n)
 Reads (Err TooLong) q = q ≡ bad 0
-Reads (Err Memory) q = Unit {0}
+Reads (Err (Memory _)) q = Unit {0}

@@ -16,7 +16,7 @@ pub struct Page {
 }
 
 impl Page {
-    /// A page of which no line has been read.
+    /// A page of which no line has been read. What is 0 or empty stays unread until the stage says otherwise.
     pub(crate) fn new(heap: Global) -> Page
         ensures { sheet_of result ≡ empty }
     {

@@ -9,7 +9,7 @@ use std::alloc::Global;
 /// What the lines of a text have said so far.
 #[derive(Drop)]
 pub struct Parser {
-    /// The number of the next line, from 1.
+    /// The number of the next line, from 1. It is counted here, since `finish` names the line after the last.
     number: u64,
     stage: Stage,
     page: Page,

@@ -9,7 +9,7 @@ use std::error::Error;
 use std::fmt;
 
 /// A text has at most so many bytes.
-const MOST_BYTES: usize = 65_536;
+pub const MOST_BYTES: usize = 65_536;
 
 /// Why a text was not read.
 #[derive(Clone, Copy, Debug, PartialEq, Eq)]
@@ -19,7 +19,7 @@ pub enum ReadError {
     /// The text has too many bytes for a sheet.
     TooLong,
     /// There was no memory for the page.
-    Memory,
+    Memory(AllocError),
 }
 
 impl fmt::Display for ReadError {
@@ -27,7 +27,7 @@ impl fmt::Display for ReadError {
         match self {
             ReadError::Bad(number) => write!(f, "line {number} is bad or missing"),
             ReadError::TooLong => write!(f, "the text is longer than {MOST_BYTES} bytes"),
-            ReadError::Memory => write!(f, "out of memory"),
+            ReadError::Memory(_) => write!(f, "out of memory"),
         }
     }
 }
@@ -35,10 +35,10 @@ impl fmt::Display for ReadError {
 impl Error for ReadError {}
 
 impl From<AllocError> for ReadError {
-    ghost from_gives = { λ _ e. e ≡ Memory };
+    ghost from_gives = { λ failed error. error ≡ Memory failed };
 
-    fn from(_e: AllocError) -> ReadError {
-        ReadError::Memory
+    fn from(failed: AllocError) -> ReadError {
+        ReadError::Memory(failed)
     }
 }
 

@@ -7,6 +7,7 @@ ghost use Rattle.page.specs.Texts.{Free};
 const MOST_DIGITS: usize = 20;
 
 /// The number that a text is, if it is one.
+// Not `parse`, which takes a plus sign and any number of zeros, and reads a str.
 pub fn number(text: &[u8]) -> Option<u64>
     ensures { result ≡ number_of text.now }
 {

@@ -51,4 +51,4 @@ pub record FirstBad (text : List ℕ) (n : ℕ) : Type 0 where
 abbrev pub Says : ReadError → List ℕ → Type 0
 Says (Bad n) text = FirstBad text n
 Says TooLong text = FirstBad text 0
-Says Memory text = Unit {0}
+Says (Memory _) text = Unit {0}

@@ -6,7 +6,8 @@ use page::page::Page;
 use page::read::{ReadError, read};
 use std::alloc::Global;
 
-/// The page that a text is, or the number of the first line at which no sheet can go on.
+/// The page that a text is, or why it is none.
+// Apart from `page`, so that the laws do not weigh on the proofs of reading.
 pub fn read_page(heap: Global, text: &[u8]) -> Result<Page, ReadError>
     ensures answer { Reads result (read_page text.now) }
     ensures spelt { IfOk result (λ p. Spells text.now (sheet_of p)) }

@@ -1,4 +1,5 @@
-/// The place after what was handed out last: a buffer's index and the first free byte in it.
+/// A place: the index of a buffer, and a byte offset in it.
+// No method moves it past so many bytes: that would ask its caller for a sum that fits.
 #[derive(Clone, Copy, Default, PartialEq, Eq)]
 pub struct CurrentEntry {
     pub index: usize,

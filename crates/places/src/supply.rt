@@ -19,7 +19,8 @@ pub trait Supply {
     /// What it is after a buffer was asked for.
     ghost ensured: { View → ℕ → View };
 
-    /// The ghost names of the references that the supply holds, which `ensure` keeps.
+    /// The ghost names of the references that the supply holds, which `ensure` keeps. Each function that takes a supply
+    /// says again that it keeps them: no type of a supply could say so of one that is lent.
     ghost names: { Self → List GName } = { λ _. [] };
 
     /// How many buffers it could hold in all.

@@ -26,7 +26,7 @@ fn validate_index_limit(limit: u64, args: DrawArgs) -> Result<(), Refusal>
     check_limit(args.last(), limit).map_err(Refusal::IndexBeyondLimit)
 }
 
-/// Holds a draw to the limits, its vertices or indices before its instances.
+/// Holds a draw to the limits, its vertices or indices before its instances, and answers whether it has anything to draw.
 fn validate_draw(
     limits: &VertexLimits,
     index_limit: u64,

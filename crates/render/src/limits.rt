@@ -11,7 +11,7 @@ use command::refusal::{Beyond, Refusal};
 
 /// How many vertices and instances the vertex buffers have, and which slot has the least.
 /// By default nothing can be drawn.
-// A limit and its slot are two fields each, as in wgpu-core.
+// A limit and its slot are two fields each, as in wgpu-core, whose names ported files keep.
 #[derive(Clone, Copy, Default)]
 pub struct VertexLimits {
     /// Length of the shortest vertex rate vertex buffer
@@ -97,6 +97,7 @@ impl VertexLimits {
                 continue;
             };
             // No slot is past the sixteenth, so that the cast loses nothing; Rust has no From from a usize.
+            // Rust has no `From` of a usize into 32 bits; a slot is below 16.
             match step.mode {
                 VertexStepMode::Vertex => vertex.lower(i as u32, limit),
                 VertexStepMode::Instance => instance.lower(i as u32, limit),
@@ -112,6 +113,7 @@ impl VertexLimits {
 
     // Two functions, named as in wgpu-core; what they compare is one.
     /// Holds the vertices that a draw names to the limit.
+    // As for instances, but for the numbers and the refusal: `check_limit` has the rest.
     pub(crate) fn validate_vertex_limit(&self, args: DrawArgs) -> Result<(), Refusal>
         ensures { result ≡ vertex_within self.now (args.first + args.count) }
     {

@@ -16,6 +16,8 @@ use page::page::Page;
 use page::read::{ReadError, read};
 use std::alloc::{AllocError, Global};
 
+// That a function appends is said as `write!` says it, by the bytes before and after.
+
 // Records the draws of a sheet, and prints each answer.
 fn put_draws(
     out: &mut String,
@@ -83,7 +85,7 @@ pub fn answer(heap: Global, text: &[u8]) -> Result<String, AllocError>
         Ok(page) => put_sheet(&mut out, &page)?,
         Err(ReadError::Bad(number)) => writeln!(out, "{}", AnswerLine::Bad(number))?,
         Err(ReadError::TooLong) => writeln!(out, "{}", AnswerLine::Bad(0))?,
-        Err(ReadError::Memory) => return Err(AllocError),
+        Err(ReadError::Memory(failed)) => return Err(failed),
     }
     Ok(out)
 }

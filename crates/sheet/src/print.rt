@@ -8,8 +8,8 @@ use places::current::CurrentEntry;
 use std::alloc::AllocError;
 use std::fmt;
 
-/// A place as it is printed: its buffer or block, and the offset in it. The type of places is of a crate that prints
-/// nothing.
+/// A place as it is printed: its buffer or block, and the offset in it.
+// A type of its own and no `Display` for places: how they are printed is a matter of sheets alone.
 #[derive(Clone, Copy)]
 struct At(CurrentEntry);
 
@@ -25,7 +25,8 @@ impl fmt::Display for At {
 /// A line of what is printed.
 #[derive(Clone, Copy)]
 pub(crate) enum AnswerLine {
-    /// The first line of a text that is bad or missing, from 1, or 0 for a text that is too long.
+    /// The first line of a text that is bad or missing, from 1, or 0 for a text that is too long: a number, since it
+    /// is printed as one.
     Bad(u64),
     /// Why a draw is refused, or the settings, or the plan.
     Refused(Refusal),

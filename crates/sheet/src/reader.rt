@@ -3,12 +3,10 @@ ghost use Rattle.sheet.specs.Laws.{Tells};
 ghost use Rattle.sheet.specs.Printed.{printed};
 
 use super::answer::answer;
+use page::read::MOST_BYTES;
 use std::alloc::Global;
 use std::io;
 use std::io::Read;
-
-/// One byte more than a sheet may have, so that a longer text is seen to be longer.
-const MOST_READ: u64 = 65_537;
 
 /// What is printed of all that a reader gives; of a text that is too long no more is read than shows it.
 pub fn answer_from<R: Read + Drop>(heap: Global, reader: R) -> io::Result<String>
@@ -16,7 +14,7 @@ pub fn answer_from<R: Read + Drop>(heap: Global, reader: R) -> io::Result<String
     ensures tells { IfOk result (λ s. IfSome (R.remaining reader) (λ text. Tells text (string_bytes s))) }
 {
     let mut text = Vec::new(heap);
-    reader.take(MOST_READ).read_to_end(&mut text)?;
-    let printed = answer(heap, &text)?;
-    Ok(printed)
+    // One byte more than a sheet may have, so that a longer text is seen to be longer.
+    reader.take(MOST_BYTES as u64 + 1).read_to_end(&mut text)?;
+    Ok(answer(heap, &text)?)
 }

@@ -14,7 +14,8 @@ use entry::window::{SrcOffsets, calculate_src_buffer_binding_size, calculate_src
 use render::bindings::Bindings;
 use render::direct::DrawLimits;
 
-/// A buffer of arguments: its size in bytes, and its bytes as words, the last of them perhaps in part.
+/// A buffer of arguments: its size in bytes, and its bytes as words, the last of them perhaps in part, so that the words
+/// do not tell the size.
 #[derive(Clone, Copy)]
 pub struct Source<'a> {
     pub size: u64,
@@ -60,6 +61,7 @@ impl Source<'_> {
         ensures answer { result ≡ first (source_checks family self.now offset) (Ok tt) }
         ensures accepted { OnOk result (Stands self.now family offset) }
     {
+        // Rust has no `From` of a usize into 64 bits.
         if self.size > u64::from(u32::MAX) || self.words.len() as u64 != self.size.div_ceil(4) {
             return Err(Refusal::NoSuchSource);
         }
@@ -74,6 +76,7 @@ fn window_in(words: &[u32], start: u64, size: u64) -> &[u32]
     ensures value { result.now ≡ take (size / 4) (drop (start / 4) words.now) }
     ensures fit { (k : ℕ) → slice_index words.now k < 2 ^ 32 }
 {
+    // Rust has no `From` of 64 bits into a usize.
     let start = (start / 4) as usize;
     let count = (size / 4) as usize;
     &words[start..start + count]

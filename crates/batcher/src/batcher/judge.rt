@@ -90,7 +90,8 @@ impl Prepared {
     }
 }
 
-// The entry of a draw whose window and place are known.
+// The entry of a draw whose window and place are known. Its offsets are small, so that there is an entry; whoever
+// packs one by another name shares no more with it than the call of `new`.
 fn entry_for(
     request: &DrawRequest,
     family: DrawCommandFamily,

@@ -53,6 +53,7 @@ impl<E: Encoder> Deferred<E> {
     {
         self.held.push(command);
         if self.held.is_full() {
+            // Not by `flush`, which is for a queue with room.
             play_all(&mut self.below, &self.held);
             self.held.clear();
         }

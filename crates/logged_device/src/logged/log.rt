@@ -48,22 +48,14 @@ impl<E: Encoder> Logged<E> {
         below
     }
 
-    /// Notes a command.
-    fn note(&mut self, command: Command)
-        ensures log { log self.new.log.items self.new.count ≡ logged command (log self.old.log.items self.old.count) }
-        ensures below { self.new.below ≡ self.old.below }
-    {
-        // Where the log is full, the command is only counted.
-        let _ = self.log.try_push(command);
-        self.count = self.count.saturating_add(1);
-    }
-
     /// Notes a command and passes it on.
     pub(super) fn pass(&mut self, command: Command)
         ensures log { log self.new.log.items self.new.count ≡ logged command (log self.old.log.items self.old.count) }
         ensures after { E.Device.means self.new.below ≡ played command (E.Device.means self.old.below) }
     {
-        self.note(command);
+        // Where the log is full, the command is only counted.
+        let _ = self.log.try_push(command);
+        self.count = self.count.saturating_add(1);
         play(&mut self.below, command);
     }
 }

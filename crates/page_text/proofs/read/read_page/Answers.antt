@@ -17,7 +17,7 @@ module _ (text : List ℕ) where
   first (Ok p) h = tt
   first (Err (Bad n)) h = first_bad text n h.0
   first (Err TooLong) h = first_bad text 0 h
-  first (Err Memory) h = tt
+  first (Err (Memory _)) h = tt
 
 pub returns : goal.returns
 returns c =
