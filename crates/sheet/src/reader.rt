@@ -16,5 +16,6 @@ pub fn answer_from<R: Read + Drop>(heap: Global, reader: R) -> io::Result<String
     let mut text = Vec::new(heap);
     // One byte more than a sheet may have, so that a longer text is seen to be longer.
     reader.take(MOST_BYTES as u64 + 1).read_to_end(&mut text)?;
-    Ok(answer(heap, &text)?)
+    let printed = answer(heap, &text)?;
+    Ok(printed)
 }
