@@ -1,4 +1,4 @@
-ghost use Rattle.frame_exports.specs.Status.{failure_status};
+ghost use Rattle.frame_exports.specs.Status.{call_status, failure_status};
 ghost use Rattle.frame_exports.specs.declared.status.Failure.TheVariants.{Refused};
 ghost use Rattle.std.specs.Prelude.{◌≡◌};
 
@@ -37,4 +37,11 @@ impl From<Failure> for u32 {
             Failure::NoMemory => 68,
         }
     }
+}
+
+/// The status of a call as a host in C sees it: 0 where it is carried out, or the failure's.
+pub fn status_of(outcome: Result<(), Failure>) -> u32
+    ensures { result ≡ call_status outcome }
+{
+    outcome.map_or_else(u32::from, |()| 0)
 }
