@@ -1,8 +1,9 @@
 ghost use Rattle.frame_exports.specs.Status.{call_status, failure_status};
-ghost use Rattle.frame_exports.specs.declared.status.Failure.TheVariants.{Refused};
+ghost use Rattle.frame_exports.specs.declared.status.Failure.TheVariants.{NoMemory, Refused};
 ghost use Rattle.std.specs.Prelude.{◌≡◌};
 
 use command::refusal::Refusal;
+use std::alloc::AllocError;
 
 /// Why a call is not carried out.
 #[derive(Clone, Copy)]
@@ -22,6 +23,14 @@ impl From<Refusal> for Failure {
 
     fn from(refusal: Refusal) -> Failure {
         Failure::Refused(refusal)
+    }
+}
+
+impl From<AllocError> for Failure {
+    ghost from_gives = { λ _ failure. failure ≡ NoMemory };
+
+    fn from(_error: AllocError) -> Failure {
+        Failure::NoMemory
     }
 }
 
