@@ -49,6 +49,16 @@ pub struct FrameCounts {
     pub metadata_buffers: u64,
 }
 
+/// Where a frame is written. Each slice is written from its start, and what follows stays.
+#[derive(Drop)]
+pub struct Outputs<'a> {
+    /// The answer to each request.
+    pub answers: &'a mut [Place],
+    pub draws: &'a mut [DrawRecord],
+    pub batches: &'a mut [BatchRecord],
+    pub counts: &'a mut FrameCounts,
+}
+
 // Records the requests, and writes each answer. It stands on those before, so that this is no conversion of items.
 #[tactic(auto, unfolding(crate::specs::Frames::answers_told, sheet::specs::Frames::recorded_all))]
 fn put_answers(frame: &mut Frame, sources: &[u64], requests: &[Request], answers: &mut [Place])
@@ -78,25 +88,24 @@ fn counts_of(batcher: &DrawBatcher, plan: Result<FramePlan, Refusal>) -> FrameCo
 }
 
 // Plans what was recorded, and writes the records of both tables, also where the plan is refused.
-fn put_plan(
-    frame: &mut Frame,
-    draws: &mut [DrawRecord],
-    batches: &mut [BatchRecord],
-    counts: &mut FrameCounts,
-) -> Result<FramePlan, Refusal>
+fn put_plan(frame: &mut Frame, outputs: &mut Outputs) -> Result<FramePlan, Refusal>
     requires table { frame.old.batcher.draws ≤ length frame.old.tables.draws.now }
     requires tables { frame.old.batcher.batches ≤ length frame.old.tables.batches.now }
-    requires draws { frame.old.batcher.draws ≤ length draws.old }
-    requires batches { frame.old.batcher.batches ≤ length batches.old }
+    requires draws { frame.old.batcher.draws ≤ length outputs.old.draws.now }
+    requires batches { frame.old.batcher.batches ≤ length outputs.old.batches.now }
     ensures plan { result ≡ plan_of frame.old.terms.sizes.block frame.old.terms.sizes.buffer (recording_of frame.old) }
-    ensures draws { draws.new ≡ draws_written (recording_of frame.old) draws.old }
-    ensures batches { batches.new ≡ batches_written frame.old.terms.sizes.block frame.old.terms.sizes.buffer (recording_of frame.old) batches.old }
-    ensures counts { counts.new ≡ counts_told (batching frame.old.batcher) (plan_of frame.old.terms.sizes.block frame.old.terms.sizes.buffer (recording_of frame.old)) }
+    ensures draws { outputs.new.draws.now ≡ draws_written (recording_of frame.old) outputs.old.draws.now }
+    ensures batches { outputs.new.batches.now ≡ batches_written frame.old.terms.sizes.block frame.old.terms.sizes.buffer (recording_of frame.old) outputs.old.batches.now }
+    ensures counts { outputs.new.counts.now ≡ counts_told (batching frame.old.batcher) (plan_of frame.old.terms.sizes.block frame.old.terms.sizes.buffer (recording_of frame.old)) }
+    ensures answers { outputs.new.answers ≡ outputs.old.answers }
+    ensures same_draws { outputs.new.draws.ghost_name ≡ outputs.old.draws.ghost_name }
+    ensures same_batches { outputs.new.batches.ghost_name ≡ outputs.old.batches.ghost_name }
+    ensures same_counts { outputs.new.counts.ghost_name ≡ outputs.old.counts.ghost_name }
 {
     let plan = frame.plan();
-    put_each(frame.draws(), draws);
-    put_each(frame.batches(), batches);
-    *counts = counts_of(&frame.batcher, plan);
+    put_each(frame.draws(), outputs.draws);
+    put_each(frame.batches(), outputs.batches);
+    *outputs.counts = counts_of(&frame.batcher, plan);
     plan
 }
 
@@ -114,10 +123,12 @@ fn read_settings(settings: &FrameSettings) -> Result<FrameTerms, Failure>
 }
 
 // Whether the outputs have room for what `requests` requests can give.
-fn has_room(requests: usize, answers: usize, draws: usize, batches: usize) -> bool
-    ensures { result ≡ enough requests answers draws batches }
+fn has_room(requests: usize, outputs: &Outputs) -> bool
+    ensures { result ≡ enough requests (length outputs.now.answers.now) (length outputs.now.draws.now) (length outputs.now.batches.now) }
 {
-    requests <= answers && requests <= draws && requests.min(MOST_BATCHES) <= batches
+    requests <= outputs.answers.len()
+        && requests <= outputs.draws.len()
+        && requests.min(MOST_BATCHES) <= outputs.batches.len()
 }
 
 // Records and plans a frame of lawful terms, and writes all of it, also where the plan is refused.
@@ -125,19 +136,20 @@ fn put_lawful(
     terms: FrameTerms,
     sources: &[u64],
     requests: &[Request],
-    answers: &mut [Place],
-    draws: &mut [DrawRecord],
-    batches: &mut [BatchRecord],
-    counts: &mut FrameCounts,
+    outputs: &mut Outputs,
 ) -> Result<FramePlan, Refusal>
-    requires answers { length requests.now ≤ length answers.old }
-    requires draws { length requests.now ≤ length draws.old }
-    requires batches { min (length requests.now) 256 ≤ length batches.old }
+    requires answers { length requests.now ≤ length outputs.old.answers.now }
+    requires draws { length requests.now ≤ length outputs.old.draws.now }
+    requires batches { min (length requests.now) 256 ≤ length outputs.old.batches.now }
     ensures plan { result ≡ plan_of terms.sizes.block terms.sizes.buffer (frame_of (settings_told terms.settings terms.sizes) sources.now requests.now) }
-    ensures answers { answers.new ≡ answers_written (settings_told terms.settings terms.sizes) sources.now requests.now answers.old }
-    ensures draws { draws.new ≡ draws_written (frame_of (settings_told terms.settings terms.sizes) sources.now requests.now) draws.old }
-    ensures batches { batches.new ≡ batches_written terms.sizes.block terms.sizes.buffer (frame_of (settings_told terms.settings terms.sizes) sources.now requests.now) batches.old }
-    ensures counts { counts.new ≡ counts_told (frame_of (settings_told terms.settings terms.sizes) sources.now requests.now).batching (plan_of terms.sizes.block terms.sizes.buffer (frame_of (settings_told terms.settings terms.sizes) sources.now requests.now)) }
+    ensures answers { outputs.new.answers.now ≡ answers_written (settings_told terms.settings terms.sizes) sources.now requests.now outputs.old.answers.now }
+    ensures draws { outputs.new.draws.now ≡ draws_written (frame_of (settings_told terms.settings terms.sizes) sources.now requests.now) outputs.old.draws.now }
+    ensures batches { outputs.new.batches.now ≡ batches_written terms.sizes.block terms.sizes.buffer (frame_of (settings_told terms.settings terms.sizes) sources.now requests.now) outputs.old.batches.now }
+    ensures counts { outputs.new.counts.now ≡ counts_told (frame_of (settings_told terms.settings terms.sizes) sources.now requests.now).batching (plan_of terms.sizes.block terms.sizes.buffer (frame_of (settings_told terms.settings terms.sizes) sources.now requests.now)) }
+    ensures same_answers { outputs.new.answers.ghost_name ≡ outputs.old.answers.ghost_name }
+    ensures same_draws { outputs.new.draws.ghost_name ≡ outputs.old.draws.ghost_name }
+    ensures same_batches { outputs.new.batches.ghost_name ≡ outputs.old.batches.ghost_name }
+    ensures same_counts { outputs.new.counts.ghost_name ≡ outputs.old.counts.ghost_name }
 {
     let mut draw_table = [IndirectDraw::empty(); MOST_DRAWS];
     let mut batch_table = [DrawIndirectValidationBatch::empty(); MOST_BATCHES];
@@ -146,8 +158,8 @@ fn put_lawful(
         batches: &mut batch_table,
     };
     let mut frame = Frame::with_terms(terms, tables);
-    put_answers(&mut frame, sources, requests, answers);
-    put_plan(&mut frame, draws, batches, counts)
+    put_answers(&mut frame, sources, requests, outputs.answers);
+    put_plan(&mut frame, outputs)
 }
 
 /// Records requests for indirect draws over sources of given sizes, plans the frame, and writes the answers, the
@@ -157,21 +169,22 @@ pub fn put_frame(
     settings: &FrameSettings,
     sources: &[u64],
     requests: &[Request],
-    answers: &mut [Place],
-    draws: &mut [DrawRecord],
-    batches: &mut [BatchRecord],
-    counts: &mut FrameCounts,
+    outputs: &mut Outputs,
 ) -> Result<(), Failure>
-    ensures outcome { result ≡ frame_outcome settings.now (enough (length requests.now) (length answers.old) (length draws.old) (length batches.old)) (plan_of settings.now.block_size settings.now.buffer_size (frame_of settings.now sources.now requests.now)) }
-    ensures answers { answers.new ≡ (if lawful_frame settings.now && enough (length requests.now) (length answers.old) (length draws.old) (length batches.old) then answers_written settings.now sources.now requests.now answers.old else answers.old) }
-    ensures draws { draws.new ≡ (if lawful_frame settings.now && enough (length requests.now) (length answers.old) (length draws.old) (length batches.old) then draws_written (frame_of settings.now sources.now requests.now) draws.old else draws.old) }
-    ensures batches { batches.new ≡ (if lawful_frame settings.now && enough (length requests.now) (length answers.old) (length draws.old) (length batches.old) then batches_written settings.now.block_size settings.now.buffer_size (frame_of settings.now sources.now requests.now) batches.old else batches.old) }
-    ensures counts { counts.new ≡ (if lawful_frame settings.now && enough (length requests.now) (length answers.old) (length draws.old) (length batches.old) then counts_told (frame_of settings.now sources.now requests.now).batching (plan_of settings.now.block_size settings.now.buffer_size (frame_of settings.now sources.now requests.now)) else counts.old) }
+    ensures outcome { result ≡ frame_outcome settings.now (enough (length requests.now) (length outputs.old.answers.now) (length outputs.old.draws.now) (length outputs.old.batches.now)) (plan_of settings.now.block_size settings.now.buffer_size (frame_of settings.now sources.now requests.now)) }
+    ensures answers { outputs.new.answers.now ≡ (if lawful_frame settings.now && enough (length requests.now) (length outputs.old.answers.now) (length outputs.old.draws.now) (length outputs.old.batches.now) then answers_written settings.now sources.now requests.now outputs.old.answers.now else outputs.old.answers.now) }
+    ensures draws { outputs.new.draws.now ≡ (if lawful_frame settings.now && enough (length requests.now) (length outputs.old.answers.now) (length outputs.old.draws.now) (length outputs.old.batches.now) then draws_written (frame_of settings.now sources.now requests.now) outputs.old.draws.now else outputs.old.draws.now) }
+    ensures batches { outputs.new.batches.now ≡ (if lawful_frame settings.now && enough (length requests.now) (length outputs.old.answers.now) (length outputs.old.draws.now) (length outputs.old.batches.now) then batches_written settings.now.block_size settings.now.buffer_size (frame_of settings.now sources.now requests.now) outputs.old.batches.now else outputs.old.batches.now) }
+    ensures counts { outputs.new.counts.now ≡ (if lawful_frame settings.now && enough (length requests.now) (length outputs.old.answers.now) (length outputs.old.draws.now) (length outputs.old.batches.now) then counts_told (frame_of settings.now sources.now requests.now).batching (plan_of settings.now.block_size settings.now.buffer_size (frame_of settings.now sources.now requests.now)) else outputs.old.counts.now) }
+    ensures same_answers { outputs.new.answers.ghost_name ≡ outputs.old.answers.ghost_name }
+    ensures same_draws { outputs.new.draws.ghost_name ≡ outputs.old.draws.ghost_name }
+    ensures same_batches { outputs.new.batches.ghost_name ≡ outputs.old.batches.ghost_name }
+    ensures same_counts { outputs.new.counts.ghost_name ≡ outputs.old.counts.ghost_name }
 {
     let terms = read_settings(settings)?;
-    if !has_room(requests.len(), answers.len(), draws.len(), batches.len()) {
+    if !has_room(requests.len(), outputs) {
         return Err(Failure::ShortOutput);
     }
-    put_lawful(terms, sources, requests, answers, draws, batches, counts)?;
+    put_lawful(terms, sources, requests, outputs)?;
     Ok(())
 }
