@@ -1,5 +1,5 @@
 -- A frame that a host asks for.
-use Rattle.std.specs.Prelude.{ℕ, min, Bool, cond, ◌&&◌, List, [], ◌∷◌, ◌++◌, map, length, take, drop, Ok, Err, Result, nat_le, ⊤}
+use Rattle.std.specs.Prelude.{◌≡◌, ℕ, min, Bool, cond, ◌&&◌, List, [], ◌∷◌, ◌++◌, map, length, take, drop, Ok, Err, Result, nat_le, ⊤}
 use Rattle.command.specs.Family.{src_stride, dst_stride}
 use Rattle.command.specs.Lawful.{lawful, lawful_sizes}
 use Rattle.command.specs.Refusals.{number_of}
@@ -16,6 +16,7 @@ use Rattle.frame_exports.specs.Records.{batch_told, line_of, record_told}
 use Rattle.frame_exports.specs.Subranges.{place_told}
 use Rattle.frame_exports.specs.declared.frames.FrameCounts.{FrameCounts}
 use Rattle.frame_exports.specs.declared.frames.FrameSettings.{FrameSettings}
+use Rattle.frame_exports.specs.declared.frames.Outputs.{Outputs}
 use Rattle.frame_exports.specs.declared.records.BatchRecord.{BatchRecord}
 use Rattle.frame_exports.specs.declared.records.DrawRecord.{DrawRecord}
 use Rattle.frame_exports.specs.declared.records.Request.{Request}
@@ -64,6 +65,13 @@ plan_status (Err e) = number_of e
 -- room for an answer and a record of each of n requests, and for a batch of each but no more than 256
 abbrev pub enough : (n answers draws batches : ℕ) → Bool
 enough n answers draws batches = nat_le n answers && (nat_le n draws && nat_le (min n 256) batches)
+
+abbrev pub room_in : ℕ → Outputs → Bool
+room_in n o = enough n (length o.answers.now) (length o.draws.now) (length o.batches.now)
+
+-- whatever stands in them, the outputs are the same memory
+abbrev pub SameMemory : Outputs → Outputs → Type 0
+SameMemory o p = (o.answers.ghost_name ≡ p.answers.ghost_name) × (o.draws.ghost_name ≡ p.draws.ghost_name) × (o.batches.ghost_name ≡ p.batches.ghost_name) × (o.counts.ghost_name ≡ p.counts.ghost_name)
 
 abbrev pub lawful_frame : FrameSettings → Bool
 lawful_frame q = lawful q.alignment q.largest_binding && lawful_sizes q.buffer_size q.block_size

@@ -1,7 +1,7 @@
 ghost use Rattle.std.specs.Prelude.{◌≡◌, ℕ, ◌≤◌, min, ◌&&◌, ◌++◌, map, length, drop, is_ok, if◌then◌else◌, MatchResult};
 ghost use Rattle.batcher.specs.Judged.{frame_terms};
 ghost use Rattle.batcher.specs.View.{batching};
-ghost use Rattle.frame_exports.specs.Frames.{answers_told, answers_written, batches_written, counts_told, draws_written, enough, frame_of, frame_outcome, lawful_frame, plan_of, settings_failure, settings_told};
+ghost use Rattle.frame_exports.specs.Frames.{SameMemory, answers_told, answers_written, batches_written, counts_told, draws_written, frame_of, frame_outcome, lawful_frame, plan_of, room_in, settings_failure, settings_told};
 ghost use Rattle.frame_exports.specs.Records.{line_of};
 ghost use Rattle.sheet.specs.Frames.{recorded_all};
 ghost use Rattle.sheet.specs.View.{recording_of};
@@ -97,10 +97,8 @@ fn put_plan(frame: &mut Frame, outputs: &mut Outputs) -> Result<FramePlan, Refus
     ensures draws { outputs.new.draws.now ≡ draws_written (recording_of frame.old) outputs.old.draws.now }
     ensures batches { outputs.new.batches.now ≡ batches_written frame.old.terms.sizes.block frame.old.terms.sizes.buffer (recording_of frame.old) outputs.old.batches.now }
     ensures counts { outputs.new.counts.now ≡ counts_told (batching frame.old.batcher) (plan_of frame.old.terms.sizes.block frame.old.terms.sizes.buffer (recording_of frame.old)) }
-    ensures answers { outputs.new.answers ≡ outputs.old.answers }
-    ensures same_draws { outputs.new.draws.ghost_name ≡ outputs.old.draws.ghost_name }
-    ensures same_batches { outputs.new.batches.ghost_name ≡ outputs.old.batches.ghost_name }
-    ensures same_counts { outputs.new.counts.ghost_name ≡ outputs.old.counts.ghost_name }
+    ensures answers { outputs.new.answers.now ≡ outputs.old.answers.now }
+    ensures memory { SameMemory outputs.new outputs.old }
 {
     let plan = frame.plan();
     put_each(frame.draws(), outputs.draws);
@@ -124,7 +122,7 @@ fn read_settings(settings: &FrameSettings) -> Result<FrameTerms, Failure>
 
 // Whether the outputs have room for what `requests` requests can give.
 fn has_room(requests: usize, outputs: &Outputs) -> bool
-    ensures { result ≡ enough requests (length outputs.now.answers.now) (length outputs.now.draws.now) (length outputs.now.batches.now) }
+    ensures { result ≡ room_in requests outputs.now }
 {
     requests <= outputs.answers.len()
         && requests <= outputs.draws.len()
@@ -146,10 +144,7 @@ fn put_lawful(
     ensures draws { outputs.new.draws.now ≡ draws_written (frame_of (settings_told terms.settings terms.sizes) sources.now requests.now) outputs.old.draws.now }
     ensures batches { outputs.new.batches.now ≡ batches_written terms.sizes.block terms.sizes.buffer (frame_of (settings_told terms.settings terms.sizes) sources.now requests.now) outputs.old.batches.now }
     ensures counts { outputs.new.counts.now ≡ counts_told (frame_of (settings_told terms.settings terms.sizes) sources.now requests.now).batching (plan_of terms.sizes.block terms.sizes.buffer (frame_of (settings_told terms.settings terms.sizes) sources.now requests.now)) }
-    ensures same_answers { outputs.new.answers.ghost_name ≡ outputs.old.answers.ghost_name }
-    ensures same_draws { outputs.new.draws.ghost_name ≡ outputs.old.draws.ghost_name }
-    ensures same_batches { outputs.new.batches.ghost_name ≡ outputs.old.batches.ghost_name }
-    ensures same_counts { outputs.new.counts.ghost_name ≡ outputs.old.counts.ghost_name }
+    ensures memory { SameMemory outputs.new outputs.old }
 {
     let mut draw_table = [IndirectDraw::empty(); MOST_DRAWS];
     let mut batch_table = [DrawIndirectValidationBatch::empty(); MOST_BATCHES];
@@ -171,15 +166,12 @@ pub fn put_frame(
     requests: &[Request],
     outputs: &mut Outputs,
 ) -> Result<(), Failure>
-    ensures outcome { result ≡ frame_outcome settings.now (enough (length requests.now) (length outputs.old.answers.now) (length outputs.old.draws.now) (length outputs.old.batches.now)) (plan_of settings.now.block_size settings.now.buffer_size (frame_of settings.now sources.now requests.now)) }
-    ensures answers { outputs.new.answers.now ≡ (if lawful_frame settings.now && enough (length requests.now) (length outputs.old.answers.now) (length outputs.old.draws.now) (length outputs.old.batches.now) then answers_written settings.now sources.now requests.now outputs.old.answers.now else outputs.old.answers.now) }
-    ensures draws { outputs.new.draws.now ≡ (if lawful_frame settings.now && enough (length requests.now) (length outputs.old.answers.now) (length outputs.old.draws.now) (length outputs.old.batches.now) then draws_written (frame_of settings.now sources.now requests.now) outputs.old.draws.now else outputs.old.draws.now) }
-    ensures batches { outputs.new.batches.now ≡ (if lawful_frame settings.now && enough (length requests.now) (length outputs.old.answers.now) (length outputs.old.draws.now) (length outputs.old.batches.now) then batches_written settings.now.block_size settings.now.buffer_size (frame_of settings.now sources.now requests.now) outputs.old.batches.now else outputs.old.batches.now) }
-    ensures counts { outputs.new.counts.now ≡ (if lawful_frame settings.now && enough (length requests.now) (length outputs.old.answers.now) (length outputs.old.draws.now) (length outputs.old.batches.now) then counts_told (frame_of settings.now sources.now requests.now).batching (plan_of settings.now.block_size settings.now.buffer_size (frame_of settings.now sources.now requests.now)) else outputs.old.counts.now) }
-    ensures same_answers { outputs.new.answers.ghost_name ≡ outputs.old.answers.ghost_name }
-    ensures same_draws { outputs.new.draws.ghost_name ≡ outputs.old.draws.ghost_name }
-    ensures same_batches { outputs.new.batches.ghost_name ≡ outputs.old.batches.ghost_name }
-    ensures same_counts { outputs.new.counts.ghost_name ≡ outputs.old.counts.ghost_name }
+    ensures outcome { result ≡ frame_outcome settings.now (room_in (length requests.now) outputs.old) (plan_of settings.now.block_size settings.now.buffer_size (frame_of settings.now sources.now requests.now)) }
+    ensures answers { outputs.new.answers.now ≡ (if lawful_frame settings.now && room_in (length requests.now) outputs.old then answers_written settings.now sources.now requests.now outputs.old.answers.now else outputs.old.answers.now) }
+    ensures draws { outputs.new.draws.now ≡ (if lawful_frame settings.now && room_in (length requests.now) outputs.old then draws_written (frame_of settings.now sources.now requests.now) outputs.old.draws.now else outputs.old.draws.now) }
+    ensures batches { outputs.new.batches.now ≡ (if lawful_frame settings.now && room_in (length requests.now) outputs.old then batches_written settings.now.block_size settings.now.buffer_size (frame_of settings.now sources.now requests.now) outputs.old.batches.now else outputs.old.batches.now) }
+    ensures counts { outputs.new.counts.now ≡ (if lawful_frame settings.now && room_in (length requests.now) outputs.old then counts_told (frame_of settings.now sources.now requests.now).batching (plan_of settings.now.block_size settings.now.buffer_size (frame_of settings.now sources.now requests.now)) else outputs.old.counts.now) }
+    ensures memory { SameMemory outputs.new outputs.old }
 {
     let terms = read_settings(settings)?;
     if !has_room(requests.len(), outputs) {

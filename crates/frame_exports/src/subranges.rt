@@ -9,7 +9,7 @@ use places::current::CurrentEntry;
 use places::subrange::get_subrange_impl;
 
 /// Where something was placed.
-// C sees the record and the status of the call, so that both are numbers.
+// C sees the record, so that its status is a number.
 #[repr(C)]
 #[derive(Clone, Copy)]
 pub struct Place {

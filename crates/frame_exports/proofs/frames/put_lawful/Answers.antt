@@ -38,12 +38,9 @@ returns c =
     let e = rw (w.terms, b) at c.put_answers.ensures.after in
     record {
       plan = p.plan ∙ (λ i. plan_of (z i).sizes.block (z i).sizes.buffer (e i));
-      answers = (λ i. (p.answers i).now) ∙ (rw (w.terms, b) at c.put_answers.ensures.answers);
+      answers = p.answers ∙ (rw (w.terms, b) at c.put_answers.ensures.answers);
       draws = p.draws ∙ ap (λ (f : Recording Counts). draws_written f c.args.outputs.now.draws.now) e;
       batches = p.batches ∙ (λ i. batches_written (z i).sizes.block (z i).sizes.buffer (e i) c.args.outputs.now.batches.now);
       counts = p.counts ∙ (λ i. counts_told (e i).batching (plan_of (z i).sizes.block (z i).sizes.buffer (e i)));
-      same_answers = λ i. (p.answers i).ghost_name;
-      same_draws = p.same_draws;
-      same_batches = p.same_batches;
-      same_counts = p.same_counts;
+      memory = p.memory;
     }
