@@ -1,9 +1,10 @@
 -- A frame that a host asks for.
-use Rattle.std.specs.Prelude.{ℕ, min, Bool, cond, ◌&&◌, List, [], ◌∷◌, ◌++◌, map, length, take, drop, Ok, Err, Result, nat_le}
+use Rattle.std.specs.Prelude.{◌≡◌, ℕ, min, Bool, cond, ◌&&◌, List, [], ◌∷◌, ◌++◌, map, length, take, drop, Ok, Err, Result, nat_le, ⊤}
 use Rattle.command.specs.Family.{src_stride, dst_stride}
 use Rattle.command.specs.Lawful.{lawful, lawful_sizes}
 use Rattle.command.specs.Refusals.{number_of}
 use Rattle.command.specs.declared.refusal.Refusal.{Refusal}
+use Rattle.command.specs.declared.refusal.Refusal.TheVariants.{UnlawfulSettings}
 use Rattle.command.specs.declared.settings.Settings.{Settings}
 use Rattle.command.specs.declared.sizes.Sizes.{Sizes}
 use Rattle.places.specs.Counts.{Counts}
@@ -15,9 +16,12 @@ use Rattle.frame_exports.specs.Records.{batch_told, line_of, record_told}
 use Rattle.frame_exports.specs.Subranges.{place_told}
 use Rattle.frame_exports.specs.declared.frames.FrameCounts.{FrameCounts}
 use Rattle.frame_exports.specs.declared.frames.FrameSettings.{FrameSettings}
+use Rattle.frame_exports.specs.declared.frames.Outputs.{Outputs}
 use Rattle.frame_exports.specs.declared.records.BatchRecord.{BatchRecord}
 use Rattle.frame_exports.specs.declared.records.DrawRecord.{DrawRecord}
 use Rattle.frame_exports.specs.declared.records.Request.{Request}
+use Rattle.frame_exports.specs.declared.status.Failure.{Failure}
+use Rattle.frame_exports.specs.declared.status.Failure.TheVariants.{Refused, UnlawfulSizes, ShortOutput}
 use Rattle.frame_exports.specs.declared.subranges.Place.{Place}
 
 -- the answers to requests, each after the one before
@@ -62,9 +66,27 @@ plan_status (Err e) = number_of e
 abbrev pub enough : (n answers draws batches : ℕ) → Bool
 enough n answers draws batches = nat_le n answers && (nat_le n draws && nat_le (min n 256) batches)
 
+abbrev pub room_in : ℕ → Outputs → Bool
+room_in n o = enough n (length o.answers.now) (length o.draws.now) (length o.batches.now)
+
+-- whatever stands in them, the outputs are the same memory
+abbrev pub SameMemory : Outputs → Outputs → Type 0
+SameMemory o p = (o.answers.ghost_name ≡ p.answers.ghost_name) × (o.draws.ghost_name ≡ p.draws.ghost_name) × (o.batches.ghost_name ≡ p.batches.ghost_name) × (o.counts.ghost_name ≡ p.counts.ghost_name)
+
 abbrev pub lawful_frame : FrameSettings → Bool
 lawful_frame q = lawful q.alignment q.largest_binding && lawful_sizes q.buffer_size q.block_size
 
--- 1 for the settings, then 66 for the sizes, then 67 for a short output
+abbrev pub settings_failure : FrameSettings → Failure
+settings_failure q = cond (lawful q.alignment q.largest_binding) UnlawfulSizes (Refused UnlawfulSettings)
+
+abbrev pub plan_outcome : Result FramePlan Refusal → Result ⊤ Failure
+plan_outcome (Ok p) = Ok tt
+plan_outcome (Err e) = Err (Refused e)
+
+-- the settings are judged first, then the sizes, then the room, then the plan
+abbrev pub frame_outcome : FrameSettings → Bool → Result FramePlan Refusal → Result ⊤ Failure
+frame_outcome q room plan = cond (lawful_frame q) (cond room (plan_outcome plan) (Err ShortOutput)) (Err (settings_failure q))
+
+-- the status for C: 1 for the settings, then 66 for the sizes, then 67 for a short output
 abbrev pub frame_status : FrameSettings → Bool → ℕ → ℕ
 frame_status q room status = cond (lawful q.alignment q.largest_binding) (cond (lawful_sizes q.buffer_size q.block_size) (cond room status 67) 66) 1

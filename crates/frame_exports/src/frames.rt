@@ -1,9 +1,8 @@
 ghost use Rattle.std.specs.Prelude.{◌≡◌, ℕ, ◌≤◌, min, ◌&&◌, ◌++◌, map, length, drop, is_ok, if◌then◌else◌, MatchResult};
 ghost use Rattle.batcher.specs.Judged.{frame_terms};
 ghost use Rattle.batcher.specs.View.{batching};
-ghost use Rattle.frame_exports.specs.Frames.{answers_told, answers_written, batches_written, counts_told, draws_written, enough, frame_of, frame_status, lawful_frame, plan_of, plan_status, settings_told};
+ghost use Rattle.frame_exports.specs.Frames.{SameMemory, answers_told, answers_written, batches_written, counts_told, draws_written, frame_of, frame_outcome, lawful_frame, plan_of, room_in, settings_failure, settings_told};
 ghost use Rattle.frame_exports.specs.Records.{line_of};
-ghost use Rattle.frame_exports.specs.Status.{failure_status};
 ghost use Rattle.sheet.specs.Frames.{recorded_all};
 ghost use Rattle.sheet.specs.View.{recording_of};
 
@@ -50,6 +49,16 @@ pub struct FrameCounts {
     pub metadata_buffers: u64,
 }
 
+/// Where a frame is written. Each slice is written from its start, and what follows stays.
+#[derive(Drop)]
+pub struct Outputs<'a> {
+    /// The answer to each request.
+    pub answers: &'a mut [Place],
+    pub draws: &'a mut [DrawRecord],
+    pub batches: &'a mut [BatchRecord],
+    pub counts: &'a mut FrameCounts,
+}
+
 // Records the requests, and writes each answer. It stands on those before, so that this is no conversion of items.
 #[tactic(auto, unfolding(crate::specs::Frames::answers_told, sheet::specs::Frames::recorded_all))]
 fn put_answers(frame: &mut Frame, sources: &[u64], requests: &[Request], answers: &mut [Place])
@@ -66,95 +75,76 @@ fn put_answers(frame: &mut Frame, sources: &[u64], requests: &[Request], answers
     }
 }
 
-fn counts_of(batcher: &DrawBatcher, plan: &Result<FramePlan, Refusal>) -> FrameCounts
-    ensures { result ≡ counts_told (batching batcher.now) plan.now }
+fn counts_of(batcher: &DrawBatcher, plan: Result<FramePlan, Refusal>) -> FrameCounts
+    ensures { result ≡ counts_told (batching batcher.now) plan }
 {
-    let (blocks, buffers) = match plan {
-        Ok(plan) => (plan.blocks as u64, plan.metadata as u64),
-        Err(_) => (0, 0),
-    };
+    // By `as`, here and in the records: Rust has no `From` of a usize into 64 bits.
     FrameCounts {
         draws: batcher.draws() as u64,
         batches: batcher.batches() as u64,
-        staging_blocks: blocks,
-        metadata_buffers: buffers,
+        staging_blocks: plan.map_or(0, |plan| plan.blocks as u64),
+        metadata_buffers: plan.map_or(0, |plan| plan.metadata as u64),
     }
 }
 
-fn status_of(plan: &Result<FramePlan, Refusal>) -> u32
-    ensures { result ≡ plan_status plan.now }
-{
-    match plan {
-        Ok(_) => 0,
-        Err(refusal) => u32::from(refusal.number()),
-    }
-}
-
-// Plans what was recorded, and writes the records of both tables. The status is the plan's.
-fn put_plan(
-    frame: &mut Frame,
-    draws: &mut [DrawRecord],
-    batches: &mut [BatchRecord],
-    counts: &mut FrameCounts,
-) -> u32
+// Plans what was recorded, and writes the records of both tables, also where the plan is refused.
+fn put_plan(frame: &mut Frame, outputs: &mut Outputs) -> Result<FramePlan, Refusal>
     requires table { frame.old.batcher.draws ≤ length frame.old.tables.draws.now }
     requires tables { frame.old.batcher.batches ≤ length frame.old.tables.batches.now }
-    requires draws { frame.old.batcher.draws ≤ length draws.old }
-    requires batches { frame.old.batcher.batches ≤ length batches.old }
-    ensures status { result ≡ plan_status (plan_of frame.old.terms.sizes.block frame.old.terms.sizes.buffer (recording_of frame.old)) }
-    ensures draws { draws.new ≡ draws_written (recording_of frame.old) draws.old }
-    ensures batches { batches.new ≡ batches_written frame.old.terms.sizes.block frame.old.terms.sizes.buffer (recording_of frame.old) batches.old }
-    ensures counts { counts.new ≡ counts_told (batching frame.old.batcher) (plan_of frame.old.terms.sizes.block frame.old.terms.sizes.buffer (recording_of frame.old)) }
+    requires draws { frame.old.batcher.draws ≤ length outputs.old.draws.now }
+    requires batches { frame.old.batcher.batches ≤ length outputs.old.batches.now }
+    ensures plan { result ≡ plan_of frame.old.terms.sizes.block frame.old.terms.sizes.buffer (recording_of frame.old) }
+    ensures draws { outputs.new.draws.now ≡ draws_written (recording_of frame.old) outputs.old.draws.now }
+    ensures batches { outputs.new.batches.now ≡ batches_written frame.old.terms.sizes.block frame.old.terms.sizes.buffer (recording_of frame.old) outputs.old.batches.now }
+    ensures counts { outputs.new.counts.now ≡ counts_told (batching frame.old.batcher) (plan_of frame.old.terms.sizes.block frame.old.terms.sizes.buffer (recording_of frame.old)) }
+    ensures answers { outputs.new.answers.now ≡ outputs.old.answers.now }
+    ensures memory { SameMemory outputs.new outputs.old }
 {
     let plan = frame.plan();
-    put_each(frame.draws(), draws);
-    put_each(frame.batches(), batches);
-    *counts = counts_of(&frame.batcher, &plan);
-    status_of(&plan)
+    put_each(frame.draws(), outputs.draws);
+    put_each(frame.batches(), outputs.batches);
+    *outputs.counts = counts_of(&frame.batcher, plan);
+    plan
 }
 
-// The terms that a frame is planned by, or why they are not lawful, or that outputs are short.
-fn read_settings(settings: &FrameSettings, room: bool) -> Result<FrameTerms, Failure>
-    ensures accepted { is_ok result ≡ (lawful_frame settings.now && room) }
-    ensures value { MatchResult result (λ t. settings_told t.settings t.sizes ≡ settings.now) (λ e. ((s : ℕ) → failure_status e ≡ frame_status settings.now room s)) }
+// The terms that a frame is planned by, or why they are not lawful.
+fn read_settings(settings: &FrameSettings) -> Result<FrameTerms, Failure>
+    ensures accepted { is_ok result ≡ lawful_frame settings.now }
+    ensures value { MatchResult result (λ t. settings_told t.settings t.sizes ≡ settings.now) (λ e. e ≡ settings_failure settings.now) }
 {
     let device = Settings::new(settings.alignment, settings.largest_binding)?;
     let sizes = Sizes::new(settings.buffer_size, settings.block_size);
-    let sizes = sizes.ok_or(Failure::UnlawfulSizes)?;
-    if !room {
-        return Err(Failure::ShortOutput);
-    }
     Ok(FrameTerms {
         settings: device,
-        sizes,
+        sizes: sizes.ok_or(Failure::UnlawfulSizes)?,
     })
 }
 
 // Whether the outputs have room for what `requests` requests can give.
-fn has_room(requests: usize, answers: usize, draws: usize, batches: usize) -> bool
-    ensures { result ≡ enough requests answers draws batches }
+fn has_room(requests: usize, outputs: &Outputs) -> bool
+    ensures { result ≡ room_in requests outputs.now }
 {
-    requests <= answers && requests <= draws && requests.min(MOST_BATCHES) <= batches
+    requests <= outputs.answers.len()
+        && requests <= outputs.draws.len()
+        && requests.min(MOST_BATCHES) <= outputs.batches.len()
 }
 
-// Records and plans a frame of lawful terms, and writes all of it. The status is the plan's.
-fn put_frame(
+// Records and plans a frame of lawful terms, and writes all of it, also where the plan is refused.
+fn put_lawful(
     terms: FrameTerms,
     sources: &[u64],
     requests: &[Request],
-    answers: &mut [Place],
-    draws: &mut [DrawRecord],
-    batches: &mut [BatchRecord],
-    counts: &mut FrameCounts,
-) -> u32
-    requires answers { length requests.now ≤ length answers.old }
-    requires draws { length requests.now ≤ length draws.old }
-    requires batches { min (length requests.now) 256 ≤ length batches.old }
-    ensures status { result ≡ plan_status (plan_of terms.sizes.block terms.sizes.buffer (frame_of (settings_told terms.settings terms.sizes) sources.now requests.now)) }
-    ensures answers { answers.new ≡ answers_written (settings_told terms.settings terms.sizes) sources.now requests.now answers.old }
-    ensures draws { draws.new ≡ draws_written (frame_of (settings_told terms.settings terms.sizes) sources.now requests.now) draws.old }
-    ensures batches { batches.new ≡ batches_written terms.sizes.block terms.sizes.buffer (frame_of (settings_told terms.settings terms.sizes) sources.now requests.now) batches.old }
-    ensures counts { counts.new ≡ counts_told (frame_of (settings_told terms.settings terms.sizes) sources.now requests.now).batching (plan_of terms.sizes.block terms.sizes.buffer (frame_of (settings_told terms.settings terms.sizes) sources.now requests.now)) }
+    outputs: &mut Outputs,
+) -> Result<FramePlan, Refusal>
+    requires answers { length requests.now ≤ length outputs.old.answers.now }
+    requires draws { length requests.now ≤ length outputs.old.draws.now }
+    requires batches { min (length requests.now) 256 ≤ length outputs.old.batches.now }
+    ensures plan { result ≡ plan_of terms.sizes.block terms.sizes.buffer (frame_of (settings_told terms.settings terms.sizes) sources.now requests.now) }
+    ensures answers { outputs.new.answers.now ≡ answers_written (settings_told terms.settings terms.sizes) sources.now requests.now outputs.old.answers.now }
+    ensures draws { outputs.new.draws.now ≡ draws_written (frame_of (settings_told terms.settings terms.sizes) sources.now requests.now) outputs.old.draws.now }
+    ensures batches { outputs.new.batches.now ≡ batches_written terms.sizes.block terms.sizes.buffer (frame_of (settings_told terms.settings terms.sizes) sources.now requests.now) outputs.old.batches.now }
+    ensures counts { outputs.new.counts.now ≡ counts_told (frame_of (settings_told terms.settings terms.sizes) sources.now requests.now).batching (plan_of terms.sizes.block terms.sizes.buffer (frame_of (settings_told terms.settings terms.sizes) sources.now requests.now)) }
+    ensures memory { SameMemory outputs.new outputs.old }
 {
     let mut draw_table = [IndirectDraw::empty(); MOST_DRAWS];
     let mut batch_table = [DrawIndirectValidationBatch::empty(); MOST_BATCHES];
@@ -163,30 +153,30 @@ fn put_frame(
         batches: &mut batch_table,
     };
     let mut frame = Frame::with_terms(terms, tables);
-    put_answers(&mut frame, sources, requests, answers);
-    put_plan(&mut frame, draws, batches, counts)
+    put_answers(&mut frame, sources, requests, outputs.answers);
+    put_plan(&mut frame, outputs)
 }
 
 /// Records requests for indirect draws over sources of given sizes, plans the frame, and writes the answers, the
-/// accepted draws, the batches and how much it all takes. Nothing is written at status 1, 66 or 67.
-pub fn jorumspit_frame(
+/// accepted draws, the batches and how much it all takes. Where the settings or sizes are not lawful, or an output is
+/// too short, nothing is written; where the plan is refused, all of it is.
+pub fn put_frame(
     settings: &FrameSettings,
     sources: &[u64],
     requests: &[Request],
-    answers: &mut [Place],
-    draws: &mut [DrawRecord],
-    batches: &mut [BatchRecord],
-    counts: &mut FrameCounts,
-) -> u32
-    ensures status { result ≡ frame_status settings.now (enough (length requests.now) (length answers.old) (length draws.old) (length batches.old)) (plan_status (plan_of settings.now.block_size settings.now.buffer_size (frame_of settings.now sources.now requests.now))) }
-    ensures answers { answers.new ≡ (if lawful_frame settings.now && enough (length requests.now) (length answers.old) (length draws.old) (length batches.old) then answers_written settings.now sources.now requests.now answers.old else answers.old) }
-    ensures draws { draws.new ≡ (if lawful_frame settings.now && enough (length requests.now) (length answers.old) (length draws.old) (length batches.old) then draws_written (frame_of settings.now sources.now requests.now) draws.old else draws.old) }
-    ensures batches { batches.new ≡ (if lawful_frame settings.now && enough (length requests.now) (length answers.old) (length draws.old) (length batches.old) then batches_written settings.now.block_size settings.now.buffer_size (frame_of settings.now sources.now requests.now) batches.old else batches.old) }
-    ensures counts { counts.new ≡ (if lawful_frame settings.now && enough (length requests.now) (length answers.old) (length draws.old) (length batches.old) then counts_told (frame_of settings.now sources.now requests.now).batching (plan_of settings.now.block_size settings.now.buffer_size (frame_of settings.now sources.now requests.now)) else counts.old) }
+    outputs: &mut Outputs,
+) -> Result<(), Failure>
+    ensures outcome { result ≡ frame_outcome settings.now (room_in (length requests.now) outputs.old) (plan_of settings.now.block_size settings.now.buffer_size (frame_of settings.now sources.now requests.now)) }
+    ensures answers { outputs.new.answers.now ≡ (if lawful_frame settings.now && room_in (length requests.now) outputs.old then answers_written settings.now sources.now requests.now outputs.old.answers.now else outputs.old.answers.now) }
+    ensures draws { outputs.new.draws.now ≡ (if lawful_frame settings.now && room_in (length requests.now) outputs.old then draws_written (frame_of settings.now sources.now requests.now) outputs.old.draws.now else outputs.old.draws.now) }
+    ensures batches { outputs.new.batches.now ≡ (if lawful_frame settings.now && room_in (length requests.now) outputs.old then batches_written settings.now.block_size settings.now.buffer_size (frame_of settings.now sources.now requests.now) outputs.old.batches.now else outputs.old.batches.now) }
+    ensures counts { outputs.new.counts.now ≡ (if lawful_frame settings.now && room_in (length requests.now) outputs.old then counts_told (frame_of settings.now sources.now requests.now).batching (plan_of settings.now.block_size settings.now.buffer_size (frame_of settings.now sources.now requests.now)) else outputs.old.counts.now) }
+    ensures memory { SameMemory outputs.new outputs.old }
 {
-    let room = has_room(requests.len(), answers.len(), draws.len(), batches.len());
-    match read_settings(settings, room) {
-        Ok(terms) => put_frame(terms, sources, requests, answers, draws, batches, counts),
-        Err(failure) => u32::from(failure),
+    let terms = read_settings(settings)?;
+    if !has_room(requests.len(), outputs) {
+        return Err(Failure::ShortOutput);
     }
+    put_lawful(terms, sources, requests, outputs)?;
+    Ok(())
 }

@@ -1,26 +1,28 @@
 ghost use Rattle.sheet.specs.Printed.{printed};
-ghost use Rattle.std.specs.Prelude.{◌≡◌, ◌⊎◌, ◌++◌, length, drop, if◌then◌else◌, nat_eq, nat_le};
+ghost use Rattle.std.specs.Prelude.{◌≡◌, ◌⊎◌, ◌++◌, length, drop, if◌then◌else◌, is_ok, nat_le, Ok, Err};
 
 use super::status::Failure;
 use sheet::answer::answer;
 use std::alloc::Global;
 
-/// Prints what a sheet answers. `needed` becomes the length of the print, also where the output is shorter
-/// (status 67) and nothing is written to it. Status 68 for want of memory: nothing is written at all.
-// C sees the status, so that it is a number.
-pub fn jorumspit_sheet(heap: Global, text: &[u8], output: &mut [u8], needed: &mut usize) -> u32
-    ensures status { (result ≡ 68) ⊎ (result ≡ (if nat_le (length (printed text.now)) (length output.old) then 0 else 67)) }
-    ensures needed { needed.new ≡ (if nat_eq result 68 then needed.old else length (printed text.now)) }
-    ensures written { output.new ≡ (if nat_eq result 0 then printed text.now ++ drop (length (printed text.now)) output.old else output.old) }
+/// Prints what a sheet answers. `needed` becomes the length of the print, also where the output is shorter and nothing
+/// is written to it. For want of memory nothing is written at all.
+// The length is an output, since it is told with a failure too.
+pub fn put_sheet(
+    heap: Global,
+    text: &[u8],
+    output: &mut [u8],
+    needed: &mut usize,
+) -> Result<(), Failure>
+    ensures outcome { ((result ≡ Err Failure.NoMemory) × (needed.new ≡ needed.old)) ⊎ ((result ≡ (if nat_le (length (printed text.now)) (length output.old) then Ok tt else Err Failure.ShortOutput)) × (needed.new ≡ length (printed text.now))) }
+    ensures written { output.new ≡ (if is_ok result then printed text.now ++ drop (length (printed text.now)) output.old else output.old) }
 {
-    let Ok(print) = answer(heap, text) else {
-        return u32::from(Failure::NoMemory);
-    };
+    let print = answer(heap, text)?;
     let bytes = print.as_bytes();
     *needed = bytes.len();
     if bytes.len() > output.len() {
-        return u32::from(Failure::ShortOutput);
+        return Err(Failure::ShortOutput);
     }
     output[..bytes.len()].copy_from_slice(bytes);
-    0
+    Ok(())
 }

@@ -1,8 +1,9 @@
-ghost use Rattle.frame_exports.specs.Status.{failure_status};
-ghost use Rattle.frame_exports.specs.declared.status.Failure.TheVariants.{Refused};
+ghost use Rattle.frame_exports.specs.Status.{call_status, failure_status};
+ghost use Rattle.frame_exports.specs.declared.status.Failure.TheVariants.{NoMemory, Refused};
 ghost use Rattle.std.specs.Prelude.{◌≡◌};
 
 use command::refusal::Refusal;
+use std::alloc::AllocError;
 
 /// Why a call is not carried out.
 #[derive(Clone, Copy)]
@@ -25,6 +26,14 @@ impl From<Refusal> for Failure {
     }
 }
 
+impl From<AllocError> for Failure {
+    ghost from_gives = { λ _ failure. failure ≡ NoMemory };
+
+    fn from(_error: AllocError) -> Failure {
+        Failure::NoMemory
+    }
+}
+
 /// The status that a call answers: the refusal's number, or one that no refusal has.
 impl From<Failure> for u32 {
     ghost from_gives = { λ failure status. status ≡ failure_status failure };
@@ -37,4 +46,11 @@ impl From<Failure> for u32 {
             Failure::NoMemory => 68,
         }
     }
+}
+
+/// The status of a call as a host in C sees it: 0 where it is carried out, or the failure's.
+pub fn status_of(outcome: Result<(), Failure>) -> u32
+    ensures { result ≡ call_status outcome }
+{
+    outcome.map_or_else(u32::from, |()| 0)
 }

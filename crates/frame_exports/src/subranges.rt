@@ -1,4 +1,4 @@
-ghost use Rattle.std.specs.Prelude.{◌≡◌, ◌≤◌, ◌++◌, length, drop, if◌then◌else◌, None, nat_le};
+ghost use Rattle.std.specs.Prelude.{◌≡◌, ◌≤◌, ◌++◌, length, drop, if◌then◌else◌, None, Ok, Err, nat_le};
 ghost use Rattle.frame_exports.specs.Subranges.{place_told, places_told};
 ghost use Rattle.places.specs.Counts.{counts};
 
@@ -9,7 +9,7 @@ use places::current::CurrentEntry;
 use places::subrange::get_subrange_impl;
 
 /// Where something was placed.
-// C sees the record and the status of the call, so that both are numbers.
+// C sees the record, so that its status is a number.
 #[repr(C)]
 #[derive(Clone, Copy)]
 pub struct Place {
@@ -42,20 +42,20 @@ impl From<Result<CurrentEntry, Refusal>> for Place {
 }
 
 /// Places sizes one after another in buffers of `buffer_size` bytes, of which there are `buffers`. Each size has a
-/// place of its own in the output, which is refused for want of a buffer alone. Status 67 where the output has
-/// fewer places than there are sizes: nothing is written.
+/// place of its own in the output, which is refused for want of a buffer alone. Where the output has fewer places
+/// than there are sizes, nothing is written.
 #[tactic(auto, unfolding(crate::specs::Subranges::places_told))]
-pub fn jorumspit_places(
+pub fn put_places(
     sizes: &[u64],
     buffer_size: u64,
     buffers: usize,
     places: &mut [Place],
-) -> u32
-    ensures status { result ≡ (if nat_le (length sizes.now) (length places.old) then 0 else 67) }
+) -> Result<(), Failure>
+    ensures outcome { result ≡ (if nat_le (length sizes.now) (length places.old) then Ok tt else Err Failure.ShortOutput) }
     ensures written { places.new ≡ (if nat_le (length sizes.now) (length places.old) then places_told buffer_size sizes.now None (counts 0 buffers) ++ drop (length sizes.now) places.old else places.old) }
 {
     if sizes.len() > places.len() {
-        return u32::from(Failure::ShortOutput);
+        return Err(Failure::ShortOutput);
     }
     let mut supply = Counted::new(buffers);
     let mut current = None;
@@ -64,5 +64,5 @@ pub fn jorumspit_places(
         let answer = get_subrange_impl(&mut supply, &mut current, *size, buffer_size);
         places[i] = Place::from(answer);
     }
-    0
+    Ok(())
 }

@@ -1,6 +1,8 @@
 ghost use Rattle.sheet.specs.Printed.{printed};
 ghost use Rattle.std.specs.Prelude.{◌≡◌, ◌⊎◌, ◌++◌, length, drop, if◌then◌else◌, nat_eq, nat_le};
 
+use frame_exports::sheets::put_sheet;
+use frame_exports::status::status_of;
 use std::alloc::Global;
 
 /// Prints what a sheet answers. `needed` becomes the length of the print, also where the output is shorter
@@ -16,5 +18,5 @@ pub extern "C" fn jorumspit_sheet(
     ensures needed { needed.new ≡ (if nat_eq result 68 then needed.old else length (printed text.now)) }
     ensures written { output.new ≡ (if nat_eq result 0 then printed text.now ++ drop (length (printed text.now)) output.old else output.old) }
 {
-    frame_exports::sheets::jorumspit_sheet(heap, text, output, needed)
+    status_of(put_sheet(heap, text, output, needed))
 }

@@ -2,7 +2,8 @@ ghost use Rattle.std.specs.Prelude.{◌≡◌, ◌++◌, length, drop, if◌then
 ghost use Rattle.frame_exports.specs.Subranges.{places_told};
 ghost use Rattle.places.specs.Counts.{counts};
 
-use frame_exports::subranges::Place;
+use frame_exports::status::status_of;
+use frame_exports::subranges::{Place, put_places};
 
 /// Places sizes one after another in buffers of `buffer_size` bytes, of which there are `buffers`. Each size has a
 /// place of its own in the output, which is refused for want of a buffer alone. Status 67 where the output has
@@ -17,5 +18,5 @@ pub extern "C" fn jorumspit_places(
     ensures status { result ≡ (if nat_le (length sizes.now) (length places.old) then 0 else 67) }
     ensures written { places.new ≡ (if nat_le (length sizes.now) (length places.old) then places_told buffer_size sizes.now None (counts 0 buffers) ++ drop (length sizes.now) places.old else places.old) }
 {
-    frame_exports::subranges::jorumspit_places(sizes, buffer_size, buffers, places)
+    status_of(put_places(sizes, buffer_size, buffers, places))
 }

@@ -1,7 +1,7 @@
 use Rattle.std.proofs.Common.{◌≡◌, ◌++◌, length, take, drop, None}
 use Rattle.places.specs.Counts.{counts}
 use Rattle.frame_exports.specs.Subranges.{places_told}
-use Rattle.frame_exports.proofs.subranges.jorumspit_places.Given as goal
+use Rattle.frame_exports.proofs.subranges.put_places.Given as goal
 
 abbrev pub invariant-loop-i : goal.invariant-loop-i
 invariant-loop-i l =

@@ -7,10 +7,10 @@ use Rattle.places.specs.Counts.{Counts}
 use Rattle.sheet.proofs.Sounding.{Inside, begun, inside}
 use Rattle.sheet.proofs.Telling.{long}
 use Rattle.sheet.specs.Frames.{fresh}
-use Rattle.frame_exports.specs.Frames.{batches_written, counts_told, draws_written, plan_of, plan_status}
+use Rattle.frame_exports.specs.Frames.{batches_written, counts_told, draws_written, plan_of}
 use Rattle.frame_exports.specs.Records.{line_of}
 use Rattle.frame_exports.proofs.Bounding.{few}
-use Rattle.frame_exports.proofs.frames.put_frame.Goals as goal
+use Rattle.frame_exports.proofs.frames.put_lawful.Goals as goal
 
 abbrev Few : ℕ → Recording Counts → Type 0
 Few n f = (f.batching.draws ≤ n) × (f.batching.batches ≤ n) × (length f.batches ≡ 256)
@@ -37,9 +37,10 @@ returns c =
     let b = begun c.with_terms-frame.result c.empty-draw_table.result c.empty-batch_table.result w.batcher w.destinations (ap (λ (x : Tables). x.draws.now) w.tables) (ap (λ (x : Tables). x.batches.now) w.tables) c.empty-draw_table.ensures c.empty-batch_table.ensures in
     let e = rw (w.terms, b) at c.put_answers.ensures.after in
     record {
-      status = p.status ∙ (λ i. plan_status (plan_of (z i).sizes.block (z i).sizes.buffer (e i)));
-      answers = rw (w.terms, b) at c.put_answers.ensures.answers;
-      draws = p.draws ∙ ap (λ (f : Recording Counts). draws_written f c.args.draws.now) e;
-      batches = p.batches ∙ (λ i. batches_written (z i).sizes.block (z i).sizes.buffer (e i) c.args.batches.now);
+      plan = p.plan ∙ (λ i. plan_of (z i).sizes.block (z i).sizes.buffer (e i));
+      answers = p.answers ∙ (rw (w.terms, b) at c.put_answers.ensures.answers);
+      draws = p.draws ∙ ap (λ (f : Recording Counts). draws_written f c.args.outputs.now.draws.now) e;
+      batches = p.batches ∙ (λ i. batches_written (z i).sizes.block (z i).sizes.buffer (e i) c.args.outputs.now.batches.now);
       counts = p.counts ∙ (λ i. counts_told (e i).batching (plan_of (z i).sizes.block (z i).sizes.buffer (e i)));
+      memory = p.memory;
     }
