@@ -22,7 +22,7 @@ impl From<Refusal> for Failure {
     ghost from_gives = { λ refusal failure. failure ≡ Refused refusal };
 
     fn from(refusal: Refusal) -> Failure {
-        Failure::Refused(refusal)
+        Self::Refused(refusal)
     }
 }
 
@@ -30,7 +30,7 @@ impl From<AllocError> for Failure {
     ghost from_gives = { λ _ failure. failure ≡ NoMemory };
 
     fn from(_error: AllocError) -> Failure {
-        Failure::NoMemory
+        Self::NoMemory
     }
 }
 
