@@ -62,7 +62,7 @@ impl From<Step> for Option<RawStep> {
     }
 }
 
-// Binds or empties one slot, as its flag asks.
+// Binds or empties one slot, as its flag asks: an `Option` between would be taken apart at once, here and for the index.
 fn bind_slot(bindings: &mut Bindings, number: u64, slot: &Slot) -> Result<(), Refusal>
     ensures answer { result ≡ slot_asked number slot.now }
     ensures after { bound bindings.new ≡ slot_after number slot.now (bound bindings.old) }

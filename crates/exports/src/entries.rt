@@ -74,7 +74,7 @@ impl From<Arguments> for Verdict {
 }
 
 /// Packs a draw into an entry. A kind other than 0 and 1 is refused, then a wide offset has no entry.
-// A kind is a number here, since a host may name one that there is not.
+// A kind is a number here, since a host may name one that there is not; the five numbers are those of an entry's `new`.
 pub fn pack_entry(
     kind: u64,
     src_offset: u64,

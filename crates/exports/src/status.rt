@@ -6,6 +6,7 @@ ghost use Rattle.std.specs.Prelude.{◌≡◌};
 use command::refusal::Refusal;
 
 /// Why a call is not carried out.
+// Not one enum with that of frame_exports: this crate links alone, and each has failures that the other has not.
 #[derive(Clone, Copy)]
 pub enum Failure {
     /// The library refuses it.

@@ -27,6 +27,7 @@ const MOST_DRAWS: usize = 1024;
 const MOST_BATCHES: usize = 256;
 
 /// The numbers of the device and the sizes of buffers and blocks, all in bytes.
+// Numbers, here and in the counts below, since C sees them.
 #[repr(C)]
 #[derive(Clone, Copy)]
 pub struct FrameSettings {
@@ -129,7 +130,8 @@ fn has_room(requests: usize, outputs: &Outputs) -> bool
         && requests.min(MOST_BATCHES) <= outputs.batches.len()
 }
 
-// Records and plans a frame of lawful terms, and writes all of it, also where the plan is refused.
+// Records and plans a frame of lawful terms, and writes all of it, also where the plan is refused. Its clauses are those
+// of `put_frame` once nothing is in the way; `put_frame` has them of every input.
 fn put_lawful(
     terms: FrameTerms,
     sources: &[u64],
