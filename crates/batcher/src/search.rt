@@ -4,7 +4,7 @@ ghost use Rattle.batcher.specs.Keys.{Finds, found, has_key};
 use super::records::{BatchKey, DrawIndirectValidationBatch};
 
 impl BatchKey {
-    /// Whether a batch has this key.
+    /// Whether a batch has this key: the derived `==`, under a name that says of what.
     pub fn is_of(&self, batch: &DrawIndirectValidationBatch) -> bool
         ensures { result ≡ has_key self.now batch.now }
     {

@@ -1,7 +1,8 @@
 use super::records::{DrawIndirectValidationBatch, IndirectDraw};
 
-/// The two tables that a caller lends to a batcher; their lengths are what there is room for. Whatever is handed them
-/// says that it leaves them the tables that they were, by their ghost names.
+/// The two tables that a caller lends to a batcher; their lengths are what there is room for.
+// That they stay the tables that were lent stands in two clauses wherever they are handed on, one for each reference: a
+// word for both would have to be opened at each use.
 #[derive(Drop)]
 pub struct Tables<'a> {
     pub draws: &'a mut [IndirectDraw],

@@ -79,7 +79,7 @@ fn put_answers(frame: &mut Frame, sources: &[u64], requests: &[Request], answers
 fn counts_of(batcher: &DrawBatcher, plan: Result<FramePlan, Refusal>) -> FrameCounts
     ensures { result ≡ counts_told (batching batcher.now) plan }
 {
-    // By `as`, here and in the records: Rust has no `From` of a usize into 64 bits.
+    // By `as`, here, in the records and in places: Rust has no `From` of a usize into 64 bits.
     FrameCounts {
         draws: batcher.draws() as u64,
         batches: batcher.batches() as u64,
@@ -131,7 +131,8 @@ fn has_room(requests: usize, outputs: &Outputs) -> bool
 }
 
 // Records and plans a frame of lawful terms, and writes all of it, also where the plan is refused. Its clauses are those
-// of `put_frame` once nothing is in the way; `put_frame` has them of every input.
+// of `put_frame` once nothing is in the way; `put_frame` has them of every input. It begins as the frame of a sheet does:
+// one function for both would take all that is done with answers and plan as closures.
 fn put_lawful(
     terms: FrameTerms,
     sources: &[u64],

@@ -14,7 +14,8 @@ pub fn answer_from<R: Read + Drop>(heap: Global, reader: R) -> io::Result<String
     ensures tells { IfOk result (λ s. IfSome (R.remaining reader) (λ text. Tells text (string_bytes s))) }
 {
     let mut text = Vec::new(heap);
-    // One byte more than a sheet may have, so that a longer text is seen to be longer.
+    // One byte more than a sheet may have, so that a longer text is seen to be longer. By `as`: Rust has no `From` of a
+    // usize into 64 bits.
     reader.take(MOST_BYTES as u64 + 1).read_to_end(&mut text)?;
     let printed = answer(heap, &text)?;
     Ok(printed)
