@@ -51,7 +51,7 @@ pub enum Refusal {
     DeviceMemory,
 }
 
-/// A refusal as numbers: which it is, and its values where it has any.
+/// A refusal as numbers: which it is, and its values where it has any. By these a host in C is told it.
 #[derive(Clone, Copy)]
 pub struct Report {
     pub number: u8,

@@ -32,7 +32,7 @@ impl From<u32> for BlockBook {
 
     fn from(word: u32) -> BlockBook {
         BlockBook {
-            // Rust has no `From` of 32 bits into a usize.
+            // By `as`: Rust has no `From` of 32 bits into a usize, and `try_from` would add a failure that there is not.
             end: (word / 16 * 16) as usize,
             state: BufferUses::from(word % 16),
         }

@@ -79,7 +79,7 @@ fn byte_offset(word: u32) -> u64
 
 impl MetadataEntry {
     /// The entry of a draw, or nothing where an offset does not fit 32 bits.
-    // A flag and five parameters, as the Rust has them.
+    // A flag and five parameters, as in the Rust, whose signatures ported files keep.
     pub fn new(
         indexed: bool,
         src_offset: u64,

@@ -103,7 +103,7 @@ impl Unpacked {
         ensures words { (l il : ℕ) → Alike self.now.vertex_or_index_limit l → Alike self.now.instance_limit il → words_of result ≡ checked first_instance_allowed self.now.family (self.now.src_offset / 4) l il window.now }
         ensures kind { (a : Arguments) → result ≡ Some a → argument_family a ≡ self.now.family }
     {
-        // Rust has no `From` of 64 bits into a usize.
+        // By `as`: a usize has 64 bits here, so that `try_from` would only add a step.
         let words = window.get((self.src_offset / 4) as usize..)?;
         let arguments = Arguments::read(self.family, words)?;
         Some(self.judge(first_instance_allowed, arguments))

@@ -9,6 +9,7 @@ use entry::metadata::MetadataEntry;
 use entry::validate::Arguments;
 
 /// The four words of one entry.
+// A struct beside `MetadataEntry`, since its layout is C's.
 #[repr(C)]
 #[derive(Clone, Copy)]
 pub struct Entry {

@@ -129,6 +129,7 @@ pub fn judge_draw(
 }
 
 /// Writes what was judged of a draw, whatever it is, and answers its status.
+// A number, since this is for C alone, as `give` is.
 pub fn give_report(judged: Result<bool, Refusal>, report: &mut Report) -> u32
     ensures status { result ≡ result_status judged }
     ensures written { report.new ≡ draw_written judged }

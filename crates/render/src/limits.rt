@@ -96,8 +96,7 @@ impl VertexLimits {
             let Some(limit) = own_limit(step, range.size()) else {
                 continue;
             };
-            // No slot is past the sixteenth, so that the cast loses nothing; Rust has no From from a usize.
-            // Rust has no `From` of a usize into 32 bits; a slot is below 16.
+            // By `as`: no slot is past the sixteenth, and `try_from` would add a failure that there is not.
             match step.mode {
                 VertexStepMode::Vertex => vertex.lower(i as u32, limit),
                 VertexStepMode::Instance => instance.lower(i as u32, limit),
@@ -111,9 +110,8 @@ impl VertexLimits {
         }
     }
 
-    // Two functions, named as in wgpu-core; what they compare is one.
+    // This and the next are two functions, named as in wgpu-core, whose names ported files keep; what they compare is one.
     /// Holds the vertices that a draw names to the limit.
-    // As for instances, but for the numbers and the refusal: `check_limit` has the rest.
     pub(crate) fn validate_vertex_limit(&self, args: DrawArgs) -> Result<(), Refusal>
         ensures { result ≡ vertex_within self.now (args.first + args.count) }
     {

@@ -46,7 +46,8 @@ fn put_plan(out: &mut String, frame: &mut Frame) -> Result<(), AllocError>
     }
 }
 
-// Records a frame, plans it, and prints both.
+// Records a frame, plans it, and prints both. A host's frame begins in the same way: one function for both would take
+// all that is done with answers and plan as closures.
 fn put_frame(
     out: &mut String,
     settings: Settings,

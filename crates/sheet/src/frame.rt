@@ -37,7 +37,7 @@ fn request_of(sources: &[u64], line: &DrawLine) -> DrawRequest
     DrawRequest {
         kind: line.kind,
         source: line.source,
-        // Rust has no `From` of 64 bits into a usize.
+        // By `as`: a usize has 64 bits here, so that `try_from` would only add a step.
         size: sources.get(line.source as usize).copied(),
         offset: line.offset,
         limit: line.first_limit,

@@ -76,13 +76,15 @@ fn window_in(words: &[u32], start: u64, size: u64) -> &[u32]
     ensures value { result.now ≡ take (size / 4) (drop (start / 4) words.now) }
     ensures fit { (k : ℕ) → slice_index words.now k < 2 ^ 32 }
 {
-    // Rust has no `From` of 64 bits into a usize.
+    // By `as`: a usize has 64 bits here, and `try_from` would add a failure that there is not.
     let start = (start / 4) as usize;
     let count = (size / 4) as usize;
     &words[start..start + count]
 }
 
 /// The packed entry of a draw.
+// `entry_for` of batcher does the same for a request of its own; a function for both would have all the parameters of
+// `MetadataEntry::new` once more.
 fn pack(limits: DrawLimits, src_offset: u64, dst_offset: u32) -> MetadataEntry
     requires { src_offset < 2 ^ 32 }
     ensures { result ≡ entry_for limits src_offset dst_offset }

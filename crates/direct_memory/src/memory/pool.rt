@@ -31,7 +31,7 @@ impl Memory {
         ensures value { result ≡ record { start = pool_at (shape self.now.numbers) + number * buffer_words (shape self.now.numbers); size = buffer_words (shape self.now.numbers) } }
         ensures room { Inside result self.now.words.items }
     {
-        // Rust has no `From` of 64 bits into a usize.
+        // By `as`: a usize has 64 bits here, and `try_from` would add a failure that there is not.
         let size = (self.numbers.properties.buffer_size / 4) as usize;
         Region {
             start: self.pool_start() + number * size,

@@ -32,7 +32,7 @@ impl Memory {
         ensures { MatchOption result (array_vec_len self.now.numbers.sources ≤ source) (SourceLies self.now source) }
     {
         let place = self.numbers.sources.get(source)?;
-        // Rust has no `From` of 32 bits into a usize.
+        // By `as`: Rust has no `From` of 32 bits into a usize, and `try_from` would add a failure that there is not.
         Some(Region {
             start: place.start,
             size: place.size.div_ceil(4) as usize,
