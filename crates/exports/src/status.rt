@@ -5,6 +5,12 @@ ghost use Rattle.std.specs.Prelude.{◌≡◌};
 
 use command::refusal::Refusal;
 
+/// The status where an entry reads outside its window.
+pub const OUTSIDE_WINDOW: u32 = 64;
+
+/// The status where an offset is 4,294,967,296 or more, so that there is no entry.
+pub const WIDE_OFFSET: u32 = 65;
+
 /// Why a call is not carried out.
 // Not one enum with that of frame_exports: this crate links alone, and each has failures that the other has not.
 #[derive(Clone, Copy)]
@@ -32,8 +38,8 @@ impl From<Failure> for u32 {
     fn from(failure: Failure) -> u32 {
         match failure {
             Failure::Refused(reason) => u32::from(reason.number()),
-            Failure::OutsideWindow => 64,
-            Failure::WideOffset => 65,
+            Failure::OutsideWindow => OUTSIDE_WINDOW,
+            Failure::WideOffset => WIDE_OFFSET,
         }
     }
 }

@@ -1,9 +1,9 @@
 -- What a render pass has bound, as lists.
-use Rattle.std.specs.Prelude.{ℕ, List, replicate, Some, None, Option, slice_set}
-use Rattle.arrayvec.specs.ArrayVec.{ArrayVec}
+use Rattle.std.specs.Prelude.{ℕ, List, take, replicate, Some, None, Option, slice_set}
 use Rattle.render.specs.declared.bindings.Bindings.{Bindings}
 use Rattle.render.specs.declared.bindings.IndexBinding.{IndexBinding}
 use Rattle.render.specs.declared.bindings.VertexSlot.{VertexSlot}
+use Rattle.render.specs.declared.steps.PipelineSteps.{PipelineSteps}
 use Rattle.render.specs.declared.steps.VertexStep.{VertexStep}
 
 pub record Bound : Type 0 where
@@ -11,9 +11,12 @@ pub record Bound : Type 0 where
   pub steps : Option (List (Option VertexStep))
   pub index : Option IndexBinding
 
-abbrev pub steps_of : Option (ArrayVec (Option VertexStep)) → Option (List (Option VertexStep))
+abbrev pub listed : PipelineSteps → List (Option VertexStep)
+listed steps = take steps.len steps.all
+
+abbrev pub steps_of : Option PipelineSteps → Option (List (Option VertexStep))
 steps_of None = None
-steps_of (Some steps) = Some steps.items
+steps_of (Some steps) = Some (listed steps)
 
 abbrev pub bound : Bindings → Bound
 bound b = record { slots = b.slots; steps = steps_of b.steps; index = b.index }

@@ -1,5 +1,5 @@
 ghost use Rattle.std.specs.Prelude.{◌≡◌, ◌≤◌, true, false, length, MatchResult};
-ghost use Rattle.render.specs.Bound.{bound};
+ghost use Rattle.render.specs.Bound.{bound, listed};
 ghost use Rattle.render.specs.Requests.{slot_answer, after_slot, clear_answer, after_clear, range_answer, index_answer, after_index};
 ghost use Rattle.render.specs.Requests.{slot_number, step_answer, steps_answer, after_steps, well_formed, step_list};
 
@@ -38,7 +38,7 @@ fn read_step(raw: Option<RawStep>) -> Result<Option<VertexStep>, Refusal>
 #[tactic(auto, using(std::proofs::lemmas::List::Folds::list_all_at))]
 fn read_steps(raw: &[Option<RawStep>]) -> Result<PipelineSteps, Refusal>
     requires { length raw.now ≤ 16 }
-    ensures { MatchResult result (λ steps. (well_formed raw.now ≡ true) × (steps.items ≡ step_list raw.now)) (λ e. (e ≡ Refusal.MalformedBinding) × (well_formed raw.now ≡ false)) }
+    ensures { MatchResult result (λ steps. (well_formed raw.now ≡ true) × (listed steps ≡ step_list raw.now)) (λ e. (e ≡ Refusal.MalformedBinding) × (well_formed raw.now ≡ false)) }
 {
     let mut steps = PipelineSteps::new();
     for step in raw {

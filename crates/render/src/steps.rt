@@ -1,7 +1,5 @@
-ghost use Rattle.std.specs.Prelude.{◌≡◌};
-ghost use Rattle.render.specs.Requests.{mode_answer, read_answer};
+ghost use Rattle.std.specs.Prelude.{◌≡◌, ◌<◌, ◌≤◌, [], ◌∷◌, ◌++◌, length};
 
-use arrayvec::ArrayVec;
 use command::refusal::Refusal;
 
 /// How many slots there are, and so how many steps a pipeline can have.
@@ -19,6 +17,8 @@ pub enum VertexStepMode {
 /// What a mode goes by, or refusal 3 for a number that names none.
 impl TryFrom<u64> for VertexStepMode {
     type Error = Refusal;
+
+    ghost use Rattle.render.specs.Requests.{mode_answer};
 
     ghost try_from_gives = { λ mode answer. answer ≡ mode_answer mode };
 
@@ -54,6 +54,8 @@ pub struct RawStep {
 impl TryFrom<RawStep> for VertexStep {
     type Error = Refusal;
 
+    ghost use Rattle.render.specs.Requests.{read_answer};
+
     ghost try_from_gives = { λ raw answer. answer ≡ read_answer raw };
 
     fn try_from(raw: RawStep) -> Result<VertexStep, Refusal> {
@@ -68,5 +70,41 @@ impl TryFrom<RawStep> for VertexStep {
     }
 }
 
-/// The steps of a pipeline, the one at `i` for slot `i`.
-pub(crate) type PipelineSteps = ArrayVec<Option<VertexStep>, MAX_VERTEX_BUFFERS>;
+/// The steps of a pipeline, the one at `i` for slot `i`: the first `len` of the table.
+#[derive(Clone, Copy)]
+pub struct PipelineSteps {
+    all: [Option<VertexStep>; MAX_VERTEX_BUFFERS],
+    len: usize,
+    ghost ok: { len ≤ 16 },
+}
+
+impl PipelineSteps {
+    ghost use Rattle.render.specs.Bound.{listed};
+
+    /// The steps of a pipeline that has none.
+    pub(crate) fn new() -> PipelineSteps
+        ensures { listed result ≡ [] }
+    {
+        PipelineSteps {
+            all: [None; MAX_VERTEX_BUFFERS],
+            len: 0,
+        }
+    }
+
+    /// Adds the step of the next slot.
+    pub(crate) fn push(&mut self, step: Option<VertexStep>)
+        requires { length (listed self.old) < 16 }
+        ensures { listed self.new ≡ listed self.old ++ step ∷ [] }
+    {
+        self.all[self.len] = step;
+        self.len += 1;
+    }
+
+    /// The steps, from that of the first slot on.
+    pub(crate) fn as_slice(&self) -> &[Option<VertexStep>]
+        ensures value { result.now ≡ listed self.now }
+        ensures within { length result.now ≤ 16 }
+    {
+        &self.all[..self.len]
+    }
+}
