@@ -1,8 +1,6 @@
-ghost use Rattle.std.specs.Prelude.{◌<◌};
-ghost use Rattle.arrayvec.specs.ArrayVec.{array_vec_len};
+ghost use Rattle.std.specs.Prelude.{◌<◌, length};
 
-use arrayvec::ArrayVec;
-use device::commands::Command;
+use super::commands::Commands;
 
 pub mod encode;
 pub mod queue;
@@ -12,6 +10,6 @@ pub mod queue;
 /// and gives the encoder below back.
 pub struct Deferred<E> {
     below: E,
-    held: ArrayVec<Command, 256>,
-    ghost few: { array_vec_len held < 256 },
+    held: Commands,
+    ghost few: { length held < 256 },
 }

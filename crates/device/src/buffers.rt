@@ -1,4 +1,4 @@
-ghost use Rattle.device.specs.Uses.{use_code, use_from, resting_use};
+ghost use Rattle.device.specs.Uses.{use_code, use_from, same_use, resting_use};
 ghost use Rattle.std.specs.Prelude.{◌≡◌};
 
 /// What a buffer can be used for until a transition gives it another use.
@@ -17,6 +17,15 @@ pub enum BufferUses {
     StorageReadWrite,
     /// Draws read their arguments from it.
     Indirect,
+}
+
+impl BufferUses {
+    /// Whether the two are one use.
+    pub fn is(self, other: BufferUses) -> bool
+        ensures { result ≡ same_use self other }
+    {
+        self == other
+    }
 }
 
 /// The number by which a word keeps a use, from 0 on.

@@ -1,8 +1,10 @@
 -- A memory keeps what its numbers say of its words.
 use Rattle.std.proofs.Common.{◌≡◌, ℕ, ◌+◌, ◌^◌, ◌<◌, ◌≤◌, true, List, [], ◌∷◌, length, get_or, drop, set, Some, None, vec_items, sym, ap, ◌∙◌, subst, arith}
 use lib.Seq.{sets, length-sets}
+use Rattle.std.specs.List.{slice_get}
 use Rattle.std.specs.Vec.{with_items}
 use Rattle.std.proofs.lemmas.List.{get_or-drop, get_or-take, with_items_is}
+use Rattle.std.proofs.lemmas.Option.{get_or_from_slice_get, slice_get_within}
 use Rattle.std.proofs.ByRecursion.{All-from_get_or}
 use Rattle.std.proofs.lemmas.Bool.{le-ltb, lt-ltb}
 use Rattle.device.specs.Meaning.{Sound, SoundSource, Source, no_source, source_size}
@@ -10,9 +12,11 @@ use Rattle.direct_memory.specs.Cells.{part}
 use Rattle.direct_memory.specs.Held.{shape}
 use Rattle.direct_memory.specs.Layouts.{booked, words_for}
 use Rattle.direct_memory.specs.Lies.{place_of}
+use Rattle.direct_memory.specs.Tables.{source_places}
 use Rattle.direct_memory.specs.Views.{books, books_at, pool_at, sources_in}
+use Rattle.direct_memory.specs.declared.layout.SourcePlace.{SourcePlace}
 use Rattle.direct_memory.specs.declared.memory.Memory.{Memory}
-use Rattle.direct_memory.proofs.Shaping.{Fits, count_sources, frame_books_above, frame_books_below, source_at_lem, source_end, source_small}
+use Rattle.direct_memory.proofs.Shaping.{Fits, count_sources, frame_books_above, frame_books_below, no_place, source_at_lem, source_end, source_small}
 use Rattle.direct_memory.proofs.Wording.{length_part}
 
 module _ (m : Memory) where
@@ -39,14 +43,21 @@ module _ (m : Memory) where
   pub booked_below : (us vs : List ℕ) (k : ℕ) → us ≡ sets (vec_items m.words) k vs → k + length vs ≤ books_at (shape m.numbers) → booked 0 (books (shape m.numbers) (vec_items (with_items m.words us))) m.numbers.used ≡ true
   booked_below us vs k e h = rw (refilled_sets us vs k e, frame_books_below (shape m.numbers) (vec_items m.words) fits vs k h) m.books
 
+  -- what is found at a source's number is its place
+  pub found_in : (i : ℕ) (p : SourcePlace) → Some p ≡ slice_get (source_places m.numbers.sources) i → i < length (source_places m.numbers.sources)
+  found_in i p e = slice_get_within (source_places m.numbers.sources) i p (sym e)
+
+  pub found_place : (i : ℕ) (p : SourcePlace) → Some p ≡ slice_get (source_places m.numbers.sources) i → p ≡ place_of m i
+  found_place i p e = sym (get_or_from_slice_get (source_places m.numbers.sources) i p no_place (sym e))
+
   -- the bytes of a source
-  pub size_in : (i : ℕ) → i < length m.numbers.sources.items → source_size i (sources_in (shape m.numbers) (vec_items m.words)) ≡ Some (place_of m i).size
+  pub size_in : (i : ℕ) → i < length (source_places m.numbers.sources) → source_size i (sources_in (shape m.numbers) (vec_items m.words)) ≡ Some (place_of m i).size
   size_in i h =
-      rw (count_sources (shape m.numbers) (vec_items m.words) fits, lt-ltb i (length m.numbers.sources.items) h)
+      rw (count_sources (shape m.numbers) (vec_items m.words) fits, lt-ltb i (length (source_places m.numbers.sources)) h)
       (ap (λ (x : Source). Some x.size) (source_at_lem (shape m.numbers) (vec_items m.words) fits i h))
 
-  pub size_past : (i : ℕ) → length m.numbers.sources.items ≤ i → source_size i (sources_in (shape m.numbers) (vec_items m.words)) ≡ None
-  size_past i h = rw (count_sources (shape m.numbers) (vec_items m.words) fits, le-ltb i (length m.numbers.sources.items) h)
+  pub size_past : (i : ℕ) → length (source_places m.numbers.sources) ≤ i → source_size i (sources_in (shape m.numbers) (vec_items m.words)) ≡ None
+  size_past i h = rw (count_sources (shape m.numbers) (vec_items m.words) fits, le-ltb i (length (source_places m.numbers.sources)) h)
 
   -- every source is sound, since every word has 32 bits
   pub sources_sound : ((i : ℕ) → get_or (vec_items m.words) i 0 < 2 ^ 32) → Sound (sources_in (shape m.numbers) (vec_items m.words))
@@ -54,13 +65,13 @@ module _ (m : Memory) where
     where
       sound_at : (i : ℕ) → i < length (sources_in (shape m.numbers) (vec_items m.words)) → SoundSource (get_or (sources_in (shape m.numbers) (vec_items m.words)) i no_source)
       sound_at i l =
-          let h : i < length m.numbers.sources.items = omega (arith, count_sources (shape m.numbers) (vec_items m.words) fits) in
+          let h : i < length (source_places m.numbers.sources) = omega (arith, count_sources (shape m.numbers) (vec_items m.words) fits) in
           let p = place_of m i in
           let ws = vec_items m.words in
           let long : length (part p.start (words_for p.size) ws) ≡ words_for p.size = length_part p.start (words_for p.size) ws (omega (arith, source_end (shape m.numbers) ws fits i h, fits.room)) in
           let P : Source → Type 0 = λ s. SoundSource s in
           subst P (sym (source_at_lem (shape m.numbers) ws fits i h)) (record {
-            small = source_small m.numbers.sources.items 0 m.numbers.staging_start i m.numbers.laid h;
+            small = source_small (source_places m.numbers.sources) 0 m.numbers.staging_start i m.numbers.laid h;
             whole = long;
             fits = All-from_get_or (λ w. w < 2 ^ 32) (part p.start (words_for p.size) ws) 0 (λ j k. rw (get_or-take (words_for p.size) (drop p.start ws) j 0 (omega (arith, long)), get_or-drop p.start ws j 0) (small (p.start + j)));
           })

@@ -4,4 +4,5 @@ pub mod Held
 pub mod Layouts
 pub mod Lies
 pub mod Regions
+pub mod Tables
 pub mod Views

@@ -5,4 +5,5 @@ mod entries;
 pub mod layout;
 pub mod memory;
 pub mod numbers;
+mod tables;
 mod words;

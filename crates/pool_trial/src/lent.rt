@@ -47,7 +47,6 @@ impl<D: Maker> Supply for Lent<'_, D> {
             None => self.device.make(self.kind),
             top => top,
         };
-        self.tables.members.push(found.ok_or(Refusal::NoBuffer)?);
-        Ok(())
+        self.tables.members.push(found.ok_or(Refusal::NoBuffer)?)
     }
 }

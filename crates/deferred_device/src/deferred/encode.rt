@@ -12,7 +12,7 @@ use device::properties::Properties;
 // Questions go to the device below: no command changes their answers. All other calls play what is held first. Each is
 // passed on by hand, as in the logged device: only a macro could write such an impl, and the gate allows none.
 impl<E: Encoder> Device for Deferred<E> {
-    ghost means = { λ s. meant (queue s.held.items (E.Device.means s.below)) };
+    ghost means = { λ s. meant (queue s.held (E.Device.means s.below)) };
 
     fn source_count(&self) -> usize {
         self.below.source_count()

@@ -1,9 +1,9 @@
 ghost use Rattle.std.specs.Prelude.{◌≡◌, ℕ, ◌≤◌, length, if◌then◌else◌, Some, None, MatchOption, nat_lt, slice_index_or};
-ghost use Rattle.arrayvec.specs.ArrayVec.{array_vec_len};
 ghost use Rattle.device.specs.Calls.{has_word, replaced};
 ghost use Rattle.device.specs.Meaning.{Sound, no_source, source_size};
 ghost use Rattle.direct_memory.specs.Held.{held};
 ghost use Rattle.direct_memory.specs.Lies.{SourceLies};
+ghost use Rattle.direct_memory.specs.Tables.{source_places};
 ghost use Rattle.std.specs.Option.{option_map};
 
 use super::Memory;
@@ -29,7 +29,7 @@ impl Memory {
 
     /// Where the words of a source lie.
     pub(super) fn source_region(&self, source: usize) -> Option<Region>
-        ensures { MatchOption result (array_vec_len self.now.numbers.sources ≤ source) (SourceLies self.now source) }
+        ensures { MatchOption result (length (source_places self.now.numbers.sources) ≤ source) (SourceLies self.now source) }
     {
         let place = self.numbers.sources.get(source)?;
         // By `as`: Rust has no `From` of 32 bits into a usize, and `try_from` would add a failure that there is not.

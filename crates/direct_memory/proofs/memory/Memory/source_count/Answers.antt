@@ -7,4 +7,4 @@ use Rattle.direct_memory.proofs.memory.Memory.source_count.Goals as goal
 pub returns : goal.returns
 returns c =
     let m = c.args.self.now in
-    c.len.ensures.value ∙ sym (count_sources (shape m.numbers) (vec_items m.words) (fits m))
+    c.len.ensures ∙ sym (count_sources (shape m.numbers) (vec_items m.words) (fits m))
