@@ -59,6 +59,7 @@ impl Prepared {
     }
 
     // The draw joins the batch of its key, or opens one. A count that no recording has led to is refused.
+    #[inline(always)]
     fn join(
         &self,
         recorded: usize,
@@ -124,6 +125,7 @@ impl DrawBatcher {
     }
 
     // The draw's place, window, entry and key. No supply is asked: where the place is follows from the sizes alone.
+    #[inline(always)]
     fn prepare(
         &self,
         terms: &FrameTerms,
