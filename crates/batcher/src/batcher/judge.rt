@@ -59,6 +59,7 @@ impl Prepared {
     }
 
     // The draw joins the batch of its key, or opens one. A count that no recording has led to is refused.
+    #[inline(always)]
     fn join(
         &self,
         recorded: usize,
@@ -92,6 +93,7 @@ impl Prepared {
 
 // The entry of a draw whose window and place are known. Its offsets are small, so that there is an entry; whoever
 // packs one by another name shares no more with it than the call of `new`.
+#[inline(always)]
 fn entry_for(
     request: &DrawRequest,
     family: DrawCommandFamily,
@@ -114,6 +116,7 @@ fn entry_for(
 
 impl DrawBatcher {
     // Where the next draw goes. There is always such a place, since no more buffers were opened than draws recorded.
+    #[inline(always)]
     fn place_for(&self, stride: u64, buffer_size: u64) -> CurrentEntry
         requires { self.now.draws < 2 ^ 64 - 1 }
         ensures value { result ≡ placed self.now.current stride buffer_size }
@@ -124,6 +127,7 @@ impl DrawBatcher {
     }
 
     // The draw's place, window, entry and key. No supply is asked: where the place is follows from the sizes alone.
+    #[inline(always)]
     fn prepare(
         &self,
         terms: &FrameTerms,
