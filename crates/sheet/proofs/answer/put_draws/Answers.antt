@@ -15,8 +15,8 @@ pub loop-line-preserved : goal.loop-line-preserved
 loop-line-preserved c =
     let t = frame_terms c.args.frame.now.terms in
     let ss = c.args.sources.now in
-    let f = recording_of c.loop-line.frame in
-    let g = recording_of c.record-answer.new.self in
+    let f = recording_of c.loop-line.frame c.loop-line.tables in
+    let g = recording_of c.record-answer.new.self c.record-answer.new.tables in
     let ls = c.args.lines.now in
     let i = c.loop-line.line-index in
     let r = c.record-answer.result in
