@@ -93,6 +93,7 @@ impl Prepared {
 
 // The entry of a draw whose window and place are known. Its offsets are small, so that there is an entry; whoever
 // packs one by another name shares no more with it than the call of `new`.
+#[inline(always)]
 fn entry_for(
     request: &DrawRequest,
     family: DrawCommandFamily,
@@ -115,6 +116,7 @@ fn entry_for(
 
 impl DrawBatcher {
     // Where the next draw goes. There is always such a place, since no more buffers were opened than draws recorded.
+    #[inline(always)]
     fn place_for(&self, stride: u64, buffer_size: u64) -> CurrentEntry
         requires { self.now.draws < 2 ^ 64 - 1 }
         ensures value { result ≡ placed self.now.current stride buffer_size }
