@@ -32,7 +32,7 @@ fn put_draws(
 {
     for line in lines {
         let answer = frame.record(tables, sources, line);
-        writeln!(out, "{}", AnswerLine::from(answer))?;
+        AnswerLine::from(answer).put(out)?;
     }
     Ok(())
 }
@@ -43,7 +43,7 @@ fn put_plan(out: &mut String, frame: &Frame, tables: &mut Tables) -> Result<(), 
 {
     match frame.plan(tables.batches) {
         Ok(_) => put_batches(out, frame.draws(tables), frame.batches(tables)),
-        Err(refusal) => writeln!(out, "{}", AnswerLine::Refused(refusal)),
+        Err(refusal) => AnswerLine::Refused(refusal).put(out),
     }
 }
 
@@ -73,7 +73,7 @@ fn put_sheet(out: &mut String, page: &Page) -> Result<(), AllocError>
 {
     match Settings::new(page.align, page.binding) {
         Ok(settings) => put_frame(out, settings, &page.sources, &page.draws),
-        Err(refusal) => writeln!(out, "{}", AnswerLine::Refused(refusal)),
+        Err(refusal) => AnswerLine::Refused(refusal).put(out),
     }
 }
 
@@ -85,8 +85,8 @@ pub fn answer(heap: Global, text: &[u8]) -> Result<String, AllocError>
     let mut out = String::new(heap);
     match read(heap, text) {
         Ok(page) => put_sheet(&mut out, &page)?,
-        Err(ReadError::Bad(number)) => writeln!(out, "{}", AnswerLine::Bad(number))?,
-        Err(ReadError::TooLong) => writeln!(out, "{}", AnswerLine::Bad(0))?,
+        Err(ReadError::Bad(number)) => AnswerLine::Bad(number).put(&mut out)?,
+        Err(ReadError::TooLong) => AnswerLine::Bad(0).put(&mut out)?,
         Err(ReadError::Memory(failed)) => return Err(failed),
     }
     Ok(out)

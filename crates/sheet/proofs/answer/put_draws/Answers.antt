@@ -23,7 +23,7 @@ loop-line-preserved c =
     let k = c.loop-line.invariant in
     let answer = rw k.terms at c.record-answer.ensures.answer in
     let after = rw k.terms at c.record-answer.ensures.after in
-    let said = c.in_ok-writeln.ensures.bytes ∙ ap (λ (l : AnswerLine). string_bytes c.loop-line.out ++ (line_text l ++ newline)) c.from.ensures in
+    let said = c.in_ok-put.ensures ∙ ap (λ (l : AnswerLine). string_bytes c.loop-line.out ++ (line_text l ++ newline)) c.from.ensures in
     record {
       text = answers_more t ss f ls i no_line r g c.loop-line-test.true answer after _ _ said ∙ k.text;
       after = recorded_more t ss f ls i no_line r g c.loop-line-test.true answer after ∙ k.after;
