@@ -1,4 +1,4 @@
-ghost use Rattle.std.specs.Prelude.{◌≡◌, ℕ, ◌≤◌, take, None};
+ghost use Rattle.std.specs.Prelude.{◌≡◌, ℕ, ◌≤◌, length, take, None};
 ghost use Rattle.batcher.specs.Judged.{frame_terms};
 ghost use Rattle.batcher.specs.View.{batching};
 ghost use Rattle.places.specs.Counts.{counts};
@@ -100,6 +100,7 @@ impl Frame {
     pub fn plan(&self, batches: &mut [DrawIndirectValidationBatch]) -> Result<FramePlan, Refusal>
         ensures answer { result ≡ plan_answer self.now.terms.sizes.block self.now.terms.sizes.buffer self.now.batcher.batches batches.old 256 }
         ensures batches { batches.new ≡ batches_after self.now.terms.sizes.block self.now.terms.sizes.buffer self.now.batcher.batches result batches.old }
+        ensures length { length batches.new ≡ length batches.old }
     {
         let mut metadata = Counted::new(MOST_BUFFERS);
         plan(&self.batcher, &mut metadata, batches, &self.terms.sizes)
