@@ -62,16 +62,22 @@ pub struct Outputs<'a> {
 
 // Records the requests, and writes each answer. It stands on those before, so that this is no conversion of items.
 #[tactic(auto, unfolding(crate::specs::Frames::answers_told, sheet::specs::Frames::recorded_all))]
-fn put_answers(frame: &mut Frame, sources: &[u64], requests: &[Request], answers: &mut [Place])
+fn put_answers(
+    frame: &mut Frame,
+    tables: &mut Tables,
+    sources: &[u64],
+    requests: &[Request],
+    answers: &mut [Place],
+)
     requires { length requests.now ≤ length answers.old }
-    ensures answers { answers.new ≡ answers_told (frame_terms frame.old.terms) sources.now (recording_of frame.old) requests.now ++ drop (length requests.now) answers.old }
-    ensures after { recording_of frame.new ≡ recorded_all (frame_terms frame.old.terms) sources.now (recording_of frame.old) (map line_of requests.now) }
+    ensures answers { answers.new ≡ answers_told (frame_terms frame.old.terms) sources.now (recording_of frame.old tables.old) requests.now ++ drop (length requests.now) answers.old }
+    ensures after { recording_of frame.new tables.new ≡ recorded_all (frame_terms frame.old.terms) sources.now (recording_of frame.old tables.old) (map line_of requests.now) }
     ensures terms { frame.new.terms ≡ frame.old.terms }
 {
     // By index: after a `zip` with `iter_mut` a proof does not know what was written.
     for (i, request) in requests.iter().enumerate() {
         let line = DrawLine::from(*request);
-        let answer = frame.record(sources, &line);
+        let answer = frame.record(tables, sources, &line);
         answers[i] = Place::from(answer);
     }
 }
@@ -89,21 +95,21 @@ fn counts_of(batcher: &DrawBatcher, plan: Result<FramePlan, Refusal>) -> FrameCo
 }
 
 // Plans what was recorded, and writes the records of both tables, also where the plan is refused.
-fn put_plan(frame: &mut Frame, outputs: &mut Outputs) -> Result<FramePlan, Refusal>
-    requires table { frame.old.batcher.draws ≤ length frame.old.tables.draws.now }
-    requires tables { frame.old.batcher.batches ≤ length frame.old.tables.batches.now }
-    requires draws { frame.old.batcher.draws ≤ length outputs.old.draws.now }
-    requires batches { frame.old.batcher.batches ≤ length outputs.old.batches.now }
-    ensures plan { result ≡ plan_of frame.old.terms.sizes.block frame.old.terms.sizes.buffer (recording_of frame.old) }
-    ensures draws { outputs.new.draws.now ≡ draws_written (recording_of frame.old) outputs.old.draws.now }
-    ensures batches { outputs.new.batches.now ≡ batches_written frame.old.terms.sizes.block frame.old.terms.sizes.buffer (recording_of frame.old) outputs.old.batches.now }
-    ensures counts { outputs.new.counts.now ≡ counts_told (batching frame.old.batcher) (plan_of frame.old.terms.sizes.block frame.old.terms.sizes.buffer (recording_of frame.old)) }
+fn put_plan(frame: &Frame, tables: &mut Tables, outputs: &mut Outputs) -> Result<FramePlan, Refusal>
+    requires table { frame.now.batcher.draws ≤ length tables.old.draws.now }
+    requires tables { frame.now.batcher.batches ≤ length tables.old.batches.now }
+    requires draws { frame.now.batcher.draws ≤ length outputs.old.draws.now }
+    requires batches { frame.now.batcher.batches ≤ length outputs.old.batches.now }
+    ensures plan { result ≡ plan_of frame.now.terms.sizes.block frame.now.terms.sizes.buffer (recording_of frame.now tables.old) }
+    ensures draws { outputs.new.draws.now ≡ draws_written (recording_of frame.now tables.old) outputs.old.draws.now }
+    ensures batches { outputs.new.batches.now ≡ batches_written frame.now.terms.sizes.block frame.now.terms.sizes.buffer (recording_of frame.now tables.old) outputs.old.batches.now }
+    ensures counts { outputs.new.counts.now ≡ counts_told (batching frame.now.batcher) (plan_of frame.now.terms.sizes.block frame.now.terms.sizes.buffer (recording_of frame.now tables.old)) }
     ensures answers { outputs.new.answers.now ≡ outputs.old.answers.now }
     ensures memory { SameMemory outputs.new outputs.old }
 {
-    let plan = frame.plan();
-    put_each(frame.draws(), outputs.draws);
-    put_each(frame.batches(), outputs.batches);
+    let plan = frame.plan(tables.batches);
+    put_each(frame.draws(tables), outputs.draws);
+    put_each(frame.batches(tables), outputs.batches);
     *outputs.counts = counts_of(&frame.batcher, plan);
     plan
 }
@@ -151,13 +157,13 @@ fn put_lawful(
 {
     let mut draw_table = [IndirectDraw::empty(); MOST_DRAWS];
     let mut batch_table = [DrawIndirectValidationBatch::empty(); MOST_BATCHES];
-    let tables = Tables {
+    let mut tables = Tables {
         draws: &mut draw_table,
         batches: &mut batch_table,
     };
-    let mut frame = Frame::with_terms(terms, tables);
-    put_answers(&mut frame, sources, requests, outputs.answers);
-    put_plan(&mut frame, outputs)
+    let mut frame = Frame::with_terms(terms);
+    put_answers(&mut frame, &mut tables, sources, requests, outputs.answers);
+    put_plan(&frame, &mut tables, outputs)
 }
 
 /// Records requests for indirect draws over sources of given sizes, plans the frame, and writes the answers, the

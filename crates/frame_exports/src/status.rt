@@ -5,6 +5,17 @@ ghost use Rattle.std.specs.Prelude.{◌≡◌};
 use command::refusal::Refusal;
 use std::alloc::AllocError;
 
+// What a call answers where it is neither carried out, which is 0, nor refused, which is the refusal's number.
+
+/// The sizes of pool buffers and staging blocks are not lawful.
+pub const UNLAWFUL_SIZES: u32 = 66;
+
+/// An output is too short for what there is to write.
+pub const SHORT_OUTPUT: u32 = 67;
+
+/// There is too little memory for the work.
+pub const NO_MEMORY: u32 = 68;
+
 /// Why a call is not carried out.
 #[derive(Clone, Copy)]
 pub enum Failure {
@@ -41,9 +52,9 @@ impl From<Failure> for u32 {
     fn from(failure: Failure) -> u32 {
         match failure {
             Failure::Refused(reason) => u32::from(reason.number()),
-            Failure::UnlawfulSizes => 66,
-            Failure::ShortOutput => 67,
-            Failure::NoMemory => 68,
+            Failure::UnlawfulSizes => UNLAWFUL_SIZES,
+            Failure::ShortOutput => SHORT_OUTPUT,
+            Failure::NoMemory => NO_MEMORY,
         }
     }
 }

@@ -1,5 +1,5 @@
 -- However a sheet's draws are answered, no more is recorded than its tables hold.
-use Rattle.std.proofs.Common.{◌≡◌, ℕ, ◌≤◌, List, [], ◌∷◌, ◌++◌, length, replicate, Ok, Err, Result, ap, ◌∙◌, MatchResult}
+use Rattle.std.proofs.Common.{◌≡◌, ℕ, ◌≤◌, List, [], ◌∷◌, ◌++◌, length, replicate, Ok, Err, Result, MatchResult}
 use Rattle.batcher.proofs.Holding.{holds_nothing}
 use Rattle.batcher.proofs.Keeping.{keeps}
 use Rattle.batcher.specs.Holds.{Holds, asked}
@@ -9,7 +9,6 @@ use Rattle.batcher.specs.View.{batching}
 use Rattle.batcher.specs.declared.records.DrawIndirectValidationBatch.{DrawIndirectValidationBatch}
 use Rattle.batcher.specs.declared.records.IndirectDraw.{IndirectDraw}
 use Rattle.places.specs.Counts.{Counts, counts}
-use Rattle.sheet.specs.View.{recording_of}
 use Rattle.sheet.specs.declared.frame.Frame.{Frame}
 use Rattle.command.specs.declared.refusal.Refusal.{Refusal}
 use Rattle.page.specs.declared.line.DrawLine.{DrawLine}
@@ -44,5 +43,5 @@ pub inside : (t : Terms) (sources : List ℕ) (ds : List DrawLine) → Inside (r
 inside t sources ds = let s = sound_all t sources fresh ds (sound_fresh t) in (s.1.drawn, s.1.opened)
 
 -- a frame that begins in tables of records that stand for nothing
-pub begun : (f : Frame) (d : IndirectDraw) (b : DrawIndirectValidationBatch) → batching f.batcher ≡ fresh.batching → counts f.destinations.held f.destinations.left ≡ fresh.supply → f.tables.draws.now ≡ replicate 1024 d → f.tables.batches.now ≡ replicate 256 b → d ≡ no_draw → b ≡ no_batch → recording_of f ≡ fresh
-begun f d b eb es td tb ed ec = λ i. record { batching = eb i; supply = es i; draws = (td ∙ ap (replicate 1024) ed) i; batches = (tb ∙ ap (replicate 256) ec) i }
+pub begun : (f : Frame) (d : IndirectDraw) (b : DrawIndirectValidationBatch) → batching f.batcher ≡ fresh.batching → counts f.destinations.held f.destinations.left ≡ fresh.supply → d ≡ no_draw → b ≡ no_batch → ◌≡◌ {A = Recording Counts} (record { batching = batching f.batcher; supply = counts f.destinations.held f.destinations.left; draws = replicate 1024 d; batches = replicate 256 b }) fresh
+begun f d b eb es ed ec = λ i. record { batching = eb i; supply = es i; draws = replicate 1024 (ed i); batches = replicate 256 (ec i) }

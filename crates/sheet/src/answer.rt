@@ -22,27 +22,28 @@ use std::alloc::{AllocError, Global};
 fn put_draws(
     out: &mut String,
     frame: &mut Frame,
+    tables: &mut Tables,
     sources: &[u64],
     lines: &[DrawLine],
 ) -> Result<(), AllocError>
-    ensures text { OnOk result (string_bytes out.new ≡ string_bytes out.old ++ answer_lines (frame_terms frame.old.terms) sources.now (recording_of frame.old) lines.now) }
-    ensures after { OnOk result (recording_of frame.new ≡ recorded_all (frame_terms frame.old.terms) sources.now (recording_of frame.old) lines.now) }
+    ensures text { OnOk result (string_bytes out.new ≡ string_bytes out.old ++ answer_lines (frame_terms frame.old.terms) sources.now (recording_of frame.old tables.old) lines.now) }
+    ensures after { OnOk result (recording_of frame.new tables.new ≡ recorded_all (frame_terms frame.old.terms) sources.now (recording_of frame.old tables.old) lines.now) }
     ensures terms { OnOk result (frame.new.terms ≡ frame.old.terms) }
 {
     for line in lines {
-        let answer = frame.record(sources, line);
-        writeln!(out, "{}", AnswerLine::from(answer))?;
+        let answer = frame.record(tables, sources, line);
+        AnswerLine::from(answer).put(out)?;
     }
     Ok(())
 }
 
 // Plans what was recorded, and prints each batch with its entries.
-fn put_plan(out: &mut String, frame: &mut Frame) -> Result<(), AllocError>
-    ensures { OnOk result (string_bytes out.new ≡ string_bytes out.old ++ planned_text frame.old.terms.sizes.block frame.old.terms.sizes.buffer (recording_of frame.old)) }
+fn put_plan(out: &mut String, frame: &Frame, tables: &mut Tables) -> Result<(), AllocError>
+    ensures { OnOk result (string_bytes out.new ≡ string_bytes out.old ++ planned_text frame.now.terms.sizes.block frame.now.terms.sizes.buffer (recording_of frame.now tables.old)) }
 {
-    match frame.plan() {
-        Ok(_) => put_batches(out, frame.draws(), frame.batches()),
-        Err(refusal) => writeln!(out, "{}", AnswerLine::Refused(refusal)),
+    match frame.plan(tables.batches) {
+        Ok(_) => put_batches(out, frame.draws(tables), frame.batches(tables)),
+        Err(refusal) => AnswerLine::Refused(refusal).put(out),
     }
 }
 
@@ -58,13 +59,13 @@ fn put_frame(
 {
     let mut draws = [IndirectDraw::empty(); 1024];
     let mut batches = [DrawIndirectValidationBatch::empty(); 256];
-    let tables = Tables {
+    let mut tables = Tables {
         draws: &mut draws,
         batches: &mut batches,
     };
-    let mut frame = Frame::new(settings, tables);
-    put_draws(out, &mut frame, sources, lines)?;
-    put_plan(out, &mut frame)
+    let mut frame = Frame::new(settings);
+    put_draws(out, &mut frame, &mut tables, sources, lines)?;
+    put_plan(out, &frame, &mut tables)
 }
 
 fn put_sheet(out: &mut String, page: &Page) -> Result<(), AllocError>
@@ -72,7 +73,7 @@ fn put_sheet(out: &mut String, page: &Page) -> Result<(), AllocError>
 {
     match Settings::new(page.align, page.binding) {
         Ok(settings) => put_frame(out, settings, &page.sources, &page.draws),
-        Err(refusal) => writeln!(out, "{}", AnswerLine::Refused(refusal)),
+        Err(refusal) => AnswerLine::Refused(refusal).put(out),
     }
 }
 
@@ -84,8 +85,8 @@ pub fn answer(heap: Global, text: &[u8]) -> Result<String, AllocError>
     let mut out = String::new(heap);
     match read(heap, text) {
         Ok(page) => put_sheet(&mut out, &page)?,
-        Err(ReadError::Bad(number)) => writeln!(out, "{}", AnswerLine::Bad(number))?,
-        Err(ReadError::TooLong) => writeln!(out, "{}", AnswerLine::Bad(0))?,
+        Err(ReadError::Bad(number)) => AnswerLine::Bad(number).put(&mut out)?,
+        Err(ReadError::TooLong) => AnswerLine::Bad(0).put(&mut out)?,
         Err(ReadError::Memory(failed)) => return Err(failed),
     }
     Ok(out)

@@ -21,13 +21,13 @@ use plan::frame::{FramePlan, plan};
 /// So many buffers of each kind a frame may take.
 const MOST_BUFFERS: usize = 256;
 
-/// A frame that is recorded without a device: its buffers are only counted, and its tables are lent.
-#[derive(Drop)]
-pub struct Frame<'a> {
+/// A frame that is recorded without a device: its buffers are only counted.
+// Its tables are lent to each call, so that a frame can be copied.
+#[derive(Clone, Copy)]
+pub struct Frame {
     pub terms: FrameTerms,
     pub batcher: DrawBatcher,
     pub destinations: Counted,
-    pub tables: Tables<'a>,
 }
 
 // What a line asks for, over the sources of its sheet.
@@ -52,74 +52,71 @@ fn recorded<T: Copy>(table: &[T], count: usize) -> &[T]
     table.get(..count).unwrap_or(table)
 }
 
-impl<'a> Frame<'a> {
+impl Frame {
     /// A frame with nothing recorded, of the sizes that wgpu-core uses.
-    pub fn new(settings: Settings, tables: Tables<'a>) -> Frame<'a>
+    pub fn new(settings: Settings) -> Frame
         ensures settings { result.terms.settings ≡ settings }
         ensures sizes { (result.terms.sizes.buffer ≡ 1048560) × (result.terms.sizes.block ≡ 67108864) }
         ensures batcher { batching result.batcher ≡ record { draws = 0; batches = 0; current = None } }
         ensures destinations { counts result.destinations.held result.destinations.left ≡ counts 0 256 }
-        ensures tables { result.tables ≡ tables.entry }
     {
         let sizes = Sizes::base();
-        Frame::with_terms(FrameTerms { settings, sizes }, tables)
+        Frame::with_terms(FrameTerms { settings, sizes })
     }
 
     /// A frame with nothing recorded, of other terms.
-    pub fn with_terms(terms: FrameTerms, tables: Tables<'a>) -> Frame<'a>
+    pub fn with_terms(terms: FrameTerms) -> Frame
         ensures terms { result.terms ≡ terms }
         ensures batcher { batching result.batcher ≡ record { draws = 0; batches = 0; current = None } }
         ensures destinations { counts result.destinations.held result.destinations.left ≡ counts 0 256 }
-        ensures tables { result.tables ≡ tables.entry }
     {
         Frame {
             terms,
             batcher: DrawBatcher::new(),
             destinations: Counted::new(MOST_BUFFERS),
-            tables,
         }
     }
 
     /// Records the draw of a line, and answers its place or why it is refused.
-    pub fn record(&mut self, sources: &[u64], line: &DrawLine) -> Result<CurrentEntry, Refusal>
-        ensures answer { result ≡ answer_of (frame_terms self.old.terms) sources.now (recording_of self.old) line.now }
-        ensures after { recording_of self.new ≡ recorded (frame_terms self.old.terms) sources.now (recording_of self.old) line.now }
+    pub fn record(
+        &mut self,
+        tables: &mut Tables,
+        sources: &[u64],
+        line: &DrawLine,
+    ) -> Result<CurrentEntry, Refusal>
+        ensures answer { result ≡ answer_of (frame_terms self.old.terms) sources.now (recording_of self.old tables.old) line.now }
+        ensures after { recording_of self.new tables.new ≡ recorded (frame_terms self.old.terms) sources.now (recording_of self.old tables.old) line.now }
         ensures terms { self.new.terms ≡ self.old.terms }
-        ensures same_draws { self.new.tables.draws.ghost_name ≡ self.old.tables.draws.ghost_name }
-        ensures same_batches { self.new.tables.batches.ghost_name ≡ self.old.tables.batches.ghost_name }
+        ensures same_draws { tables.new.draws.ghost_name ≡ tables.old.draws.ghost_name }
+        ensures same_batches { tables.new.batches.ghost_name ≡ tables.old.batches.ghost_name }
     {
         let request = request_of(sources, line);
         let terms = self.terms;
         self.batcher
-            .add(&mut self.destinations, &mut self.tables, &terms, &request)
+            .add(&mut self.destinations, tables, &terms, &request)
     }
 
     /// Plans what was recorded, over metadata buffers that are only counted.
-    pub fn plan(&mut self) -> Result<FramePlan, Refusal>
-        ensures answer { result ≡ plan_answer self.old.terms.sizes.block self.old.terms.sizes.buffer self.old.batcher.batches self.old.tables.batches.now 256 }
-        ensures after { recording_of self.new ≡ record (recording_of self.old) { batches = batches_after self.old.terms.sizes.block self.old.terms.sizes.buffer self.old.batcher.batches result self.old.tables.batches.now } }
-        ensures length { length self.new.tables.batches.now ≡ length self.old.tables.batches.now }
-        ensures terms { self.new.terms ≡ self.old.terms }
-        ensures same_draws { self.new.tables.draws.ghost_name ≡ self.old.tables.draws.ghost_name }
-        ensures same_batches { self.new.tables.batches.ghost_name ≡ self.old.tables.batches.ghost_name }
+    pub fn plan(&self, batches: &mut [DrawIndirectValidationBatch]) -> Result<FramePlan, Refusal>
+        ensures answer { result ≡ plan_answer self.now.terms.sizes.block self.now.terms.sizes.buffer self.now.batcher.batches batches.old 256 }
+        ensures batches { batches.new ≡ batches_after self.now.terms.sizes.block self.now.terms.sizes.buffer self.now.batcher.batches result batches.old }
+        ensures length { length batches.new ≡ length batches.old }
     {
         let mut metadata = Counted::new(MOST_BUFFERS);
-        let batcher = self.batcher;
-        let sizes = self.terms.sizes;
-        plan(&batcher, &mut metadata, self.tables.batches, &sizes)
+        plan(&self.batcher, &mut metadata, batches, &self.terms.sizes)
     }
 
-    /// The draws that were accepted.
-    pub fn draws(&self) -> &[IndirectDraw]
-        ensures { result.now ≡ take self.now.batcher.draws self.now.tables.draws.now }
+    /// The draws that were accepted, in the tables that they were recorded in.
+    pub fn draws<'a>(&self, tables: &'a Tables) -> &'a [IndirectDraw]
+        ensures { result.now ≡ take self.now.batcher.draws tables.now.draws.now }
     {
-        recorded(self.tables.draws, self.batcher.draws())
+        recorded(tables.draws, self.batcher.draws())
     }
 
     /// The batches that they form.
-    pub fn batches(&self) -> &[DrawIndirectValidationBatch]
-        ensures { result.now ≡ take self.now.batcher.batches self.now.tables.batches.now }
+    pub fn batches<'a>(&self, tables: &'a Tables) -> &'a [DrawIndirectValidationBatch]
+        ensures { result.now ≡ take self.now.batcher.batches tables.now.batches.now }
     {
-        recorded(self.tables.batches, self.batcher.batches())
+        recorded(tables.batches, self.batcher.batches())
     }
 }

@@ -1,26 +1,11 @@
-ghost use Rattle.std.specs.Prelude.{◌≡◌, ◌++◌, string_bytes, OnOk, Some};
-ghost use Rattle.sheet.specs.Printed.{at_text, batch_lines, entry_lines, line_of, line_text};
+ghost use Rattle.std.specs.Prelude.{◌≡◌, ◌++◌, string_bytes, OnOk};
+ghost use Rattle.sheet.specs.Printed.{batch_lines, entry_lines, line_of, line_text, newline};
 
 use batcher::records::{BatchKey, DrawIndirectValidationBatch, IndirectDraw};
 use command::refusal::Refusal;
 use entry::metadata::MetadataEntry;
 use places::current::CurrentEntry;
 use std::alloc::AllocError;
-use std::fmt;
-
-/// A place as it is printed: its buffer or block, and the offset in it.
-// A type of its own and no `Display` for places: how they are printed is a matter of sheets alone.
-#[derive(Clone, Copy)]
-struct At(CurrentEntry);
-
-impl fmt::Display for At {
-    ghost output = { λ at. Some (at_text at.0) };
-
-    fn fmt<W: fmt::Write>(&self, f: &mut fmt::Formatter<W>) -> fmt::Result {
-        let CurrentEntry { index, offset } = self.0;
-        write!(f, "{index},{offset}")
-    }
-}
 
 /// A line of what is printed.
 #[derive(Clone, Copy)]
@@ -50,15 +35,17 @@ impl From<Result<CurrentEntry, Refusal>> for AnswerLine {
     }
 }
 
-/// The text of a line, without its newline.
-impl fmt::Display for AnswerLine {
-    ghost output = { λ line. Some (line_text line) };
-
-    fn fmt<W: fmt::Write>(&self, f: &mut fmt::Formatter<W>) -> fmt::Result {
+impl AnswerLine {
+    /// Appends the line and its newline.
+    // By `write!` into the text, and no `Display`: through one, which the text's own formatter has to call, a sheet of
+    // many lines took a third more time. Not inlined, so that each `write!` stands once and is compiled for its words.
+    pub(crate) fn put(self, out: &mut String) -> Result<(), AllocError>
+        ensures { OnOk result (string_bytes out.new ≡ string_bytes out.old ++ (line_text self ++ newline)) }
+    {
         match self {
-            AnswerLine::Bad(number) => write!(f, "bad={number}"),
-            AnswerLine::Refused(refusal) => write!(f, "refused={}", refusal.number()),
-            AnswerLine::Place(place) => write!(f, "place={}", At(*place)),
+            AnswerLine::Bad(number) => writeln!(out, "bad={number}"),
+            AnswerLine::Refused(refusal) => writeln!(out, "refused={}", refusal.number()),
+            AnswerLine::Place(place) => writeln!(out, "place={},{}", place.index, place.offset),
             AnswerLine::Batch(batch) => {
                 let BatchKey {
                     source,
@@ -66,10 +53,12 @@ impl fmt::Display for AnswerLine {
                     destination,
                 } = batch.key;
                 let count = batch.count;
-                let (staging, metadata) = (At(batch.staging), At(batch.metadata));
-                write!(
-                    f,
-                    "batch={source},{window},{destination},{count},{staging},{metadata}"
+                write!(out, "batch={source},{window},{destination},{count},")?;
+                let (staging, metadata) = (batch.staging, batch.metadata);
+                writeln!(
+                    out,
+                    "{},{},{},{}",
+                    staging.index, staging.offset, metadata.index, metadata.offset
                 )
             }
             AnswerLine::Entry(entry) => {
@@ -79,8 +68,8 @@ impl fmt::Display for AnswerLine {
                     vertex_or_index_limit,
                     instance_limit,
                 } = entry;
-                write!(
-                    f,
+                writeln!(
+                    out,
                     "entry={src_offset},{dst_offset},{vertex_or_index_limit},{instance_limit}"
                 )
             }
@@ -93,7 +82,7 @@ fn put_entries(out: &mut String, number: usize, draws: &[IndirectDraw]) -> Resul
     ensures { OnOk result (string_bytes out.new ≡ string_bytes out.old ++ entry_lines number draws.now) }
 {
     for draw in draws.iter().filter(|draw| draw.batch == number) {
-        writeln!(out, "{}", AnswerLine::Entry(draw.entry))?;
+        AnswerLine::Entry(draw.entry).put(out)?;
     }
     Ok(())
 }
@@ -107,7 +96,7 @@ pub(crate) fn put_batches(
     ensures { OnOk result (string_bytes out.new ≡ string_bytes out.old ++ batch_lines 0 draws.now batches.now) }
 {
     for (number, batch) in batches.iter().enumerate() {
-        writeln!(out, "{}", AnswerLine::Batch(*batch))?;
+        AnswerLine::Batch(*batch).put(out)?;
         put_entries(out, number, draws)?;
     }
     Ok(())

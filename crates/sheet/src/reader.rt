@@ -17,6 +17,10 @@ pub fn answer_from<R: Read + Drop>(heap: Global, reader: R) -> io::Result<String
     // One byte more than a sheet may have, so that a longer text is seen to be longer. By `as`: Rust has no `From` of a
     // usize into 64 bits.
     reader.take(MOST_BYTES as u64 + 1).read_to_end(&mut text)?;
-    let printed = answer(heap, &text)?;
-    Ok(printed)
+    // The programs print what an AllocError says: of an `io::Error` made from one by `?` only the kind is kept, and that
+    // prints as another text. This error holds its words itself, so that making it allocates nothing.
+    answer(heap, &text).map_err(|_| io::Error::new(
+        io::ErrorKind::OutOfMemory,
+        "memory allocation failed",
+    ))
 }

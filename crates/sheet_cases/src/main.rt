@@ -10,28 +10,26 @@ const LONG: usize = 30;
 
 const ENDS: usize = 5;
 
-fn show_lines(rt: &HostRuntime, lines: &[&str]) -> anyhow::Result<()> {
-    for line in lines {
-        println!(rt; "  {line}")?;
-    }
-    Ok(())
+// Whether the line of this index is printed of an answer of so many lines.
+fn is_shown(count: usize, index: usize, line: &str) -> bool {
+    let is_end = index < ENDS || count.saturating_sub(index) <= ENDS;
+    count <= LONG || is_end || line.starts_with("refused")
 }
 
+// The lines are gone over three times and never listed, so that nothing is allocated for them.
 fn show(rt: &HostRuntime, text: &str) -> anyhow::Result<()> {
-    let lines: Vec<&str> = text.lines().collect(rt.alloc())?;
-    if lines.len() <= LONG {
-        return show_lines(rt, &lines);
-    }
-    let (first, rest) = lines.split_at(ENDS);
-    let (middle, last) = rest.split_at(rest.len() - ENDS);
-    show_lines(rt, first)?;
-    for line in middle.iter().filter(|line| line.starts_with("refused")) {
+    let count = text.lines().count();
+    for (_, line) in text
+        .lines()
+        .enumerate()
+        .filter(|(i, line)| is_shown(count, *i, line))
+    {
         println!(rt; "  {line}")?;
     }
-    show_lines(rt, last)?;
-    let hidden = middle
-        .iter()
-        .filter(|line| !line.starts_with("refused"))
+    let hidden = text
+        .lines()
+        .enumerate()
+        .filter(|(i, line)| !is_shown(count, *i, line))
         .count();
     if hidden > 0 {
         println!(rt; "  ({hidden} lines not shown)")?;

@@ -8,7 +8,7 @@ use Rattle.frame_exports.proofs.frames.put_answers.Given as goal
 
 abbrev pub invariant-loop-i : goal.invariant-loop-i
 invariant-loop-i l =
-    (take l.i l.answers ++ answers_told (frame_terms l.initial.frame.terms) l.sources (recording_of l.frame) (drop l.i l.requests) ≡ answers_told (frame_terms l.initial.frame.terms) l.sources (recording_of l.initial.frame) l.requests)
+    (take l.i l.answers ++ answers_told (frame_terms l.initial.frame.terms) l.sources (recording_of l.frame l.tables) (drop l.i l.requests) ≡ answers_told (frame_terms l.initial.frame.terms) l.sources (recording_of l.initial.frame l.initial.tables) l.requests)
     × (drop (length l.requests) l.answers ≡ drop (length l.requests) l.initial.answers)
-    × (recorded_all (frame_terms l.initial.frame.terms) l.sources (recording_of l.frame) (map line_of (drop l.i l.requests)) ≡ recorded_all (frame_terms l.initial.frame.terms) l.sources (recording_of l.initial.frame) (map line_of l.requests))
+    × (recorded_all (frame_terms l.initial.frame.terms) l.sources (recording_of l.frame l.tables) (map line_of (drop l.i l.requests)) ≡ recorded_all (frame_terms l.initial.frame.terms) l.sources (recording_of l.initial.frame l.initial.tables) (map line_of l.requests))
     × (l.frame.terms ≡ l.initial.frame.terms)

@@ -15,15 +15,15 @@ pub loop-line-preserved : goal.loop-line-preserved
 loop-line-preserved c =
     let t = frame_terms c.args.frame.now.terms in
     let ss = c.args.sources.now in
-    let f = recording_of c.loop-line.frame in
-    let g = recording_of c.record-answer.new.self in
+    let f = recording_of c.loop-line.frame c.loop-line.tables in
+    let g = recording_of c.record-answer.new.self c.record-answer.new.tables in
     let ls = c.args.lines.now in
     let i = c.loop-line.line-index in
     let r = c.record-answer.result in
     let k = c.loop-line.invariant in
     let answer = rw k.terms at c.record-answer.ensures.answer in
     let after = rw k.terms at c.record-answer.ensures.after in
-    let said = c.in_ok-writeln.ensures.bytes ∙ ap (λ (l : AnswerLine). string_bytes c.loop-line.out ++ (line_text l ++ newline)) c.from.ensures in
+    let said = c.in_ok-put.ensures ∙ ap (λ (l : AnswerLine). string_bytes c.loop-line.out ++ (line_text l ++ newline)) c.from.ensures in
     record {
       text = answers_more t ss f ls i no_line r g c.loop-line-test.true answer after _ _ said ∙ k.text;
       after = recorded_more t ss f ls i no_line r g c.loop-line-test.true answer after ∙ k.after;

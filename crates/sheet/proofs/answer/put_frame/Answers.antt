@@ -1,7 +1,6 @@
 use Rattle.std.proofs.Common.{◌≡◌, ℕ, List, ◌++◌, ap, ◌∙◌, append_assoc}
 use Rattle.std.proofs.lemmas.Result.{on_ok_weaker}
 use Rattle.batcher.specs.Judged.{Recording, Terms, frame_terms}
-use Rattle.batcher.specs.declared.tables.Tables.{Tables}
 use Rattle.batcher.specs.declared.terms.FrameTerms.{FrameTerms}
 use Rattle.command.specs.Family.{src_stride, dst_stride}
 use Rattle.command.specs.declared.settings.Settings.{Settings}
@@ -27,8 +26,8 @@ pub returns : goal.returns
 returns c =
     let n = c.new-frame.ensures in
     let d = c.in_ok-put_draws.ensures in
-    let b = begun c.new-frame.result c.empty-draws.result c.empty-batches.result n.batcher n.destinations (ap (λ (t : Tables). t.draws.now) n.tables) (ap (λ (t : Tables). t.batches.now) n.tables) c.empty-draws.ensures c.empty-batches.ensures in
+    let b = begun c.new-frame.result c.empty-draws.result c.empty-batches.result n.batcher n.destinations c.empty-draws.ensures c.empty-batches.ensures in
     let et = same_terms c.new-frame.result.terms c.args.settings n.settings n.sizes in
     let block : c.put_draws.new.frame.terms.sizes.block ≡ 67108864 = ap (λ (t : FrameTerms). t.sizes.block) d.terms ∙ n.sizes.1 in
     let room : c.put_draws.new.frame.terms.sizes.buffer ≡ 1048560 = ap (λ (t : FrameTerms). t.sizes.buffer) d.terms ∙ n.sizes.0 in
-    on_ok_weaker c.put_plan.result (λ e. e ∙ ap (λ (x : List ℕ). x ++ planned_text c.put_draws.new.frame.terms.sizes.block c.put_draws.new.frame.terms.sizes.buffer (recording_of c.put_draws.new.frame)) d.text ∙ joined _ _ _ _ _ _ _ _ _ _ _ _ et b d.after block room) c.put_plan.ensures
+    on_ok_weaker c.put_plan.result (λ e. e ∙ ap (λ (x : List ℕ). x ++ planned_text c.put_draws.new.frame.terms.sizes.block c.put_draws.new.frame.terms.sizes.buffer (recording_of c.put_draws.new.frame c.put_draws.new.tables)) d.text ∙ joined _ _ _ _ _ _ _ _ _ _ _ _ et b d.after block room) c.put_plan.ensures

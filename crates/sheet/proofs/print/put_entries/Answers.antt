@@ -15,7 +15,7 @@ ended xs t y r u e k road = (YieldsList-end road xs t y r u e k).0
 pub loop-draw-preserved : goal.loop-draw-preserved
 loop-draw-preserved c =
     let draw = c.in-Some.draw in
-    c.in_ok-writeln.ensures.bytes ∙ ap (λ l. l ++ entry_line draw.now.entry) c.loop-draw.invariant ∙ lines_push (λ (d : IndirectDraw). entry_line d.entry) (string_bytes c.args.out.now) c.loop-draw.yielded draw
+    c.in_ok-put.ensures ∙ ap (λ l. l ++ entry_line draw.now.entry) c.loop-draw.invariant ∙ lines_push (λ (d : IndirectDraw). entry_line d.entry) (string_bytes c.args.out.now) c.loop-draw.yielded draw
 
 pub returns : goal.returns
 unfolding entry_lines
