@@ -5,3 +5,4 @@ pub mod Stages
 pub mod Sheets
 pub mod Parsers
 pub mod Written
+pub mod Errors

@@ -1,4 +1,5 @@
-ghost use Rattle.std.specs.Prelude.{◌≡◌};
+ghost use Rattle.std.specs.Prelude.{◌≡◌, Some};
+ghost use Rattle.page.specs.Errors.{error_text};
 ghost use Rattle.page.specs.Sheets.{Reads, read_page};
 ghost use Rattle.page.specs.declared.read.ReadError.TheVariants.{Memory};
 
@@ -23,6 +24,8 @@ pub enum ReadError {
 }
 
 impl fmt::Display for ReadError {
+    ghost output = { λ e. Some (error_text e) };
+
     fn fmt<W: fmt::Write>(&self, f: &mut fmt::Formatter<W>) -> fmt::Result {
         match self {
             ReadError::Bad(number) => write!(f, "line {number} is bad or missing"),

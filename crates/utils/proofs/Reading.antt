@@ -64,10 +64,14 @@ read_past before start named xs marks i e h r q =
     not_below (length before) xs i h (omega (arith, refused marks (get_or xs i 0) q, read_many before start named marks e r))
 
 -- what a count of all says
-counted_some : (n : ℕ) (xs : List ℕ) (found : ℕ) → Some found ≡ counted n xs → found ≡ length (firsts xs)
-counted_some n xs found q = sym (cond_some (all_below n xs) (length (firsts xs)) found (sym q)).1
+pub counted_some : (n : ℕ) (xs : List ℕ) (found : ℕ) → Some found ≡ counted n xs → (all_below n xs ≡ true) × (found ≡ length (firsts xs))
+counted_some n xs found q = let p = cond_some (all_below n xs) (length (firsts xs)) found (sym q) in (p.0, sym p.1)
 
 -- the front of what was written is all that is named, in first-named order
-pub front_named : (n : ℕ) (xs room out : List ℕ) (found : ℕ) → Some found ≡ counted n xs → out ≡ fronted (firsts xs) room → FirstNamed xs (take found out)
-front_named n xs room out found q w =
-    subst (λ (l : List ℕ). FirstNamed xs l) (sym (ap (take found) w ∙ take_at (firsts xs) (drop (length (firsts xs)) room) found (sym (counted_some n xs found q)))) (firsts_named xs)
+pub front_named : (xs room : List ℕ) (n : ℕ) → n ≡ length (firsts xs) → FirstNamed xs (take n (fronted (firsts xs) room))
+front_named xs room n e =
+    subst (λ (l : List ℕ). FirstNamed xs l) (sym (take_at (firsts xs) (drop (length (firsts xs)) room) n (sym e))) (firsts_named xs)
+
+-- the same of as many as a count of all says
+pub counted_named : (n : ℕ) (xs room out : List ℕ) (found : ℕ) → Some found ≡ counted n xs → out ≡ fronted (firsts xs) room → FirstNamed xs (take found out)
+counted_named n xs room out found q w = rw w (front_named xs room found (counted_some n xs found q).1)
