@@ -8,7 +8,9 @@ use Rattle.batcher.specs.Records.{no_batch, no_draw}
 use Rattle.batcher.specs.View.{batching}
 use Rattle.batcher.specs.declared.records.DrawIndirectValidationBatch.{DrawIndirectValidationBatch}
 use Rattle.batcher.specs.declared.records.IndirectDraw.{IndirectDraw}
+use Rattle.batcher.specs.declared.tables.Tables.{Tables}
 use Rattle.places.specs.Counts.{Counts, counts}
+use Rattle.sheet.specs.View.{recording_of}
 use Rattle.sheet.specs.declared.frame.Frame.{Frame}
 use Rattle.command.specs.declared.refusal.Refusal.{Refusal}
 use Rattle.page.specs.declared.line.DrawLine.{DrawLine}
@@ -42,6 +44,10 @@ Inside f = (f.batching.draws ≤ length f.draws) × (f.batching.batches ≤ leng
 pub inside : (t : Terms) (sources : List ℕ) (ds : List DrawLine) → Inside (recorded_all t sources fresh ds)
 inside t sources ds = let s = sound_all t sources fresh ds (sound_fresh t) in (s.1.drawn, s.1.opened)
 
--- a frame that begins in tables of records that stand for nothing
-pub begun : (f : Frame) (d : IndirectDraw) (b : DrawIndirectValidationBatch) → batching f.batcher ≡ fresh.batching → counts f.destinations.held f.destinations.left ≡ fresh.supply → d ≡ no_draw → b ≡ no_batch → ◌≡◌ {A = Recording Counts} (record { batching = batching f.batcher; supply = counts f.destinations.held f.destinations.left; draws = replicate 1024 d; batches = replicate 256 b }) fresh
-begun f d b eb es ed ec = λ i. record { batching = eb i; supply = es i; draws = replicate 1024 (ed i); batches = replicate 256 (ec i) }
+-- what a frame begins with, and tables of records that stand for nothing
+pub begun_with : (f : Frame) (d : IndirectDraw) (b : DrawIndirectValidationBatch) → batching f.batcher ≡ fresh.batching → counts f.destinations.held f.destinations.left ≡ fresh.supply → d ≡ no_draw → b ≡ no_batch → ◌≡◌ {A = Recording Counts} (record { batching = batching f.batcher; supply = counts f.destinations.held f.destinations.left; draws = replicate 1024 d; batches = replicate 256 b }) fresh
+begun_with f d b eb es ed ec = λ i. record { batching = eb i; supply = es i; draws = replicate 1024 (ed i); batches = replicate 256 (ec i) }
+
+-- a frame that begins in such tables
+pub begun : (f : Frame) (t : Tables) (d : IndirectDraw) (b : DrawIndirectValidationBatch) → batching f.batcher ≡ fresh.batching → counts f.destinations.held f.destinations.left ≡ fresh.supply → t.draws.now ≡ replicate 1024 d → t.batches.now ≡ replicate 256 b → d ≡ no_draw → b ≡ no_batch → recording_of f t ≡ fresh
+begun f t d b eb es td tb ed ec = rw (td, tb) (begun_with f d b eb es ed ec)

@@ -3,7 +3,7 @@ use Rattle.std.proofs.lemmas.List.{length-replicate}
 use Rattle.batcher.specs.Judged.{Recording, frame_terms}
 use Rattle.batcher.specs.Records.{no_batch}
 use Rattle.places.specs.Counts.{Counts}
-use Rattle.sheet.proofs.Sounding.{Inside, begun, inside}
+use Rattle.sheet.proofs.Sounding.{Inside, begun_with, inside}
 use Rattle.sheet.proofs.Telling.{long}
 use Rattle.sheet.specs.Frames.{fresh}
 use Rattle.frame_exports.specs.Frames.{batches_written, counts_told, draws_written, plan_of}
@@ -20,7 +20,7 @@ put_plan-requires c =
     let ss = c.args.sources.now in
     let qs = c.args.requests.now in
     let w = c.with_terms-frame.ensures in
-    let b = begun c.with_terms-frame.result c.empty-draw_table.result c.empty-batch_table.result w.batcher w.destinations c.empty-draw_table.ensures c.empty-batch_table.ensures in
+    let b = begun_with c.with_terms-frame.result c.empty-draw_table.result c.empty-batch_table.result w.batcher w.destinations c.empty-draw_table.ensures c.empty-batch_table.ensures in
     let after = rw (w.terms, b) at c.put_answers.ensures.after in
     let i = subst Inside (sym after) (inside t ss (map line_of qs)) in
     let n = few line_of t ss qs in
@@ -33,7 +33,7 @@ returns c =
     let w = c.with_terms-frame.ensures in
     let p = c.put_plan.ensures in
     let z = c.put_answers.ensures.terms ∙ w.terms in
-    let b = begun c.with_terms-frame.result c.empty-draw_table.result c.empty-batch_table.result w.batcher w.destinations c.empty-draw_table.ensures c.empty-batch_table.ensures in
+    let b = begun_with c.with_terms-frame.result c.empty-draw_table.result c.empty-batch_table.result w.batcher w.destinations c.empty-draw_table.ensures c.empty-batch_table.ensures in
     let e = rw (w.terms, b) at c.put_answers.ensures.after in
     record {
       plan = p.plan ∙ (λ i. plan_of (z i).sizes.block (z i).sizes.buffer (e i));

@@ -9,7 +9,7 @@ use Rattle.places.specs.Counts.{Counts}
 use Rattle.sheet.specs.Frames.{recorded_all}
 use Rattle.sheet.specs.Printed.{answer_lines, planned_text, terms_of}
 use Rattle.sheet.specs.View.{recording_of}
-use Rattle.sheet.proofs.Sounding.{begun}
+use Rattle.sheet.proofs.Sounding.{begun_with}
 use Rattle.sheet.proofs.answer.put_frame.Goals as goal
 
 same_terms : (t : FrameTerms) (s : Settings) → t.settings ≡ s → (t.sizes.buffer ≡ 1048560) × (t.sizes.block ≡ 67108864) → frame_terms t ≡ terms_of s.alignment s.largest_binding
@@ -26,7 +26,7 @@ pub returns : goal.returns
 returns c =
     let n = c.new-frame.ensures in
     let d = c.in_ok-put_draws.ensures in
-    let b = begun c.new-frame.result c.empty-draws.result c.empty-batches.result n.batcher n.destinations c.empty-draws.ensures c.empty-batches.ensures in
+    let b = begun_with c.new-frame.result c.empty-draws.result c.empty-batches.result n.batcher n.destinations c.empty-draws.ensures c.empty-batches.ensures in
     let et = same_terms c.new-frame.result.terms c.args.settings n.settings n.sizes in
     let block : c.put_draws.new.frame.terms.sizes.block ≡ 67108864 = ap (λ (t : FrameTerms). t.sizes.block) d.terms ∙ n.sizes.1 in
     let room : c.put_draws.new.frame.terms.sizes.buffer ≡ 1048560 = ap (λ (t : FrameTerms). t.sizes.buffer) d.terms ∙ n.sizes.0 in
