@@ -48,6 +48,7 @@ inside t sources ds = let s = sound_all t sources fresh ds (sound_fresh t) in (s
 pub begun_with : (f : Frame) (d : IndirectDraw) (b : DrawIndirectValidationBatch) → batching f.batcher ≡ fresh.batching → counts f.destinations.held f.destinations.left ≡ fresh.supply → d ≡ no_draw → b ≡ no_batch → ◌≡◌ {A = Recording Counts} (record { batching = batching f.batcher; supply = counts f.destinations.held f.destinations.left; draws = replicate 1024 d; batches = replicate 256 b }) fresh
 begun_with f d b eb es ed ec = λ i. record { batching = eb i; supply = es i; draws = replicate 1024 (ed i); batches = replicate 256 (ec i) }
 
--- a frame that begins in such tables
+-- a frame that begins in such tables, for whoever holds both; tables that a function makes have no name in its goals, so
+-- that its proof cites the lemma above
 pub begun : (f : Frame) (t : Tables) (d : IndirectDraw) (b : DrawIndirectValidationBatch) → batching f.batcher ≡ fresh.batching → counts f.destinations.held f.destinations.left ≡ fresh.supply → t.draws.now ≡ replicate 1024 d → t.batches.now ≡ replicate 256 b → d ≡ no_draw → b ≡ no_batch → recording_of f t ≡ fresh
 begun f t d b eb es td tb ed ec = rw (td, tb) (begun_with f d b eb es ed ec)
